@@ -1,0 +1,36 @@
+-- Permutations as 003 has them (figure 1): lists of swaps of atoms, for any number of atoms. Definitions alone; their laws are in proofs/.
+use Prim.Native.Nat.{ℕ}
+use mathlib.Core.Path.{_≡_}
+use mathlib.Core.Logic.{_≢_}
+use mathlib.Core.Bool.{cond}
+use mathlib.Core.List.{List, [], _∷_, _++_}
+use lib.Dec.{eqb}
+
+-- "A swap of an atom with itself is allowed and does nothing."
+abbrev pub Swap : Type 0
+Swap = ℕ × ℕ
+
+abbrev pub Swaps : Type 0
+Swaps = List Swap
+
+-- (a b) sends a to b, b to a and every other atom to itself.
+unfoldable pub swapped : ℕ → ℕ → ℕ → ℕ
+swapped a b c = cond (eqb c a) b (cond (eqb c b) a c)
+
+-- "In a list of swaps the RIGHTMOST acts first."
+abbrev pub act : Swaps → ℕ → ℕ
+act [] c = c
+act (s ∷ π) c = swapped (s .0) (s .1) (act π c)
+
+-- "The inverse is the reversed list."
+abbrev pub inverse : Swaps → Swaps
+inverse [] = []
+inverse (s ∷ π) = inverse π ++ (s ∷ [])
+
+-- "The disagreement set of two permutations is the set of atoms that they send to different atoms."
+abbrev pub Disagree : Swaps → Swaps → ℕ → Type 0
+Disagree π ρ a = act π a ≢ act ρ a
+
+-- Lists of swaps that send every atom alike count as one permutation.
+abbrev pub Alike : Swaps → Swaps → Type 0
+Alike π ρ = (a : ℕ) → act π a ≡ act ρ a

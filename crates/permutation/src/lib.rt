@@ -1,0 +1,1 @@
+// Permutations of up to 32 atoms.
