@@ -1,5 +1,5 @@
 -- Permutations as 003 has them (figure 1): lists of swaps of atoms, for any number of atoms. Definitions alone; their laws are in proofs/.
-use Prim.Native.Nat.{ℕ}
+use Prim.Native.Nat.{ℕ, _<_}
 use mathlib.Core.Path.{_≡_}
 use mathlib.Core.Logic.{_≢_}
 use mathlib.Core.Bool.{cond}
@@ -34,3 +34,13 @@ Disagree π ρ a = act π a ≢ act ρ a
 -- Lists of swaps that send every atom alike count as one permutation.
 abbrev pub Alike : Swaps → Swaps → Type 0
 Alike π ρ = (a : ℕ) → act π a ≡ act ρ a
+
+-- The atoms that a list of swaps names: no other atom moves.
+abbrev pub atoms : Swaps → List ℕ
+atoms [] = []
+atoms (s ∷ π) = s .0 ∷ s .1 ∷ atoms π
+
+-- All atoms that a list of swaps names are below A, as the reader ensures for the number of atoms that the problem gives.
+abbrev pub Within : ℕ → Swaps → Type 0
+Within A [] = Unit {0}
+Within A (s ∷ π) = ((s .0 < A) × (s .1 < A)) × Within A π
