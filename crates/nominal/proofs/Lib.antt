@@ -1,0 +1,3 @@
+pub mod Tree
+pub mod Figure2
+pub mod Laws
