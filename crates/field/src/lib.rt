@@ -1,0 +1,1 @@
+// Fields of a list of bytes.

@@ -1,0 +1,3 @@
+pub mod Problem
+pub mod Reader
+pub mod Readable

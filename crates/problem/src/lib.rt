@@ -1,0 +1,1 @@
+// A problem as its bytes say it.

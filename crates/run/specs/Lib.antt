@@ -1,0 +1,3 @@
+pub mod Meaning
+pub mod Run
+pub mod Answer
