@@ -1,3 +1,4 @@
 pub mod Tree
 pub mod Figure2
 pub mod Laws
+pub mod Solutions

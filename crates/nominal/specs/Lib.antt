@@ -1,2 +1,3 @@
 pub mod Tree
 pub mod Figure2
+pub mod Solutions
