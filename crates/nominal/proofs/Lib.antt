@@ -2,3 +2,5 @@ pub mod Tree
 pub mod Figure2
 pub mod Laws
 pub mod Solutions
+pub mod Steps
+pub mod Replacing

@@ -3,7 +3,9 @@
 use Prim.Native.Nat.{ℕ, _+_, suc}
 use mathlib.Core.Path.{_≡_}
 use mathlib.Core.Logic.{_⊎_}
+use mathlib.Core.Bool.{cond}
 use mathlib.Core.List.{[], _++_}
+use lib.Dec.{eqb}
 use Rattle.permutation.specs.Swaps.{Swaps, act}
 
 -- "unit, atom a, abstraction [a]t, pair, application of a symbol to one term, suspension of a variable under a list of swaps"
@@ -43,6 +45,10 @@ substitute σ (suspension π X) = permute π (σ X)
 -- First σ, then τ.
 abbrev pub composed : Substitution → Substitution → Substitution
 composed τ σ X = substitute τ (σ X)
+
+-- 003, (10): [X := t].
+unfoldable pub replacing : ℕ → Tree → Substitution
+replacing X t Y = cond (eqb Y X) t (variable Y)
 
 -- 003, definition 2.10.
 abbrev pub size : Tree → ℕ

@@ -8,7 +8,7 @@ use lib.ListN.{getD}
 use lib.Dec.{eqb}
 use Rattle.permutation.specs.Swaps.{act, inverse}
 use Rattle.permutation.specs.Table.{Table, swapsOf}
-use Rattle.nominal.specs.Tree.{Tree, unit, atom, abstraction, pair, application, suspension, variable, permute, Substitution, substitute, composed}
+use Rattle.nominal.specs.Tree.{Tree, unit, atom, abstraction, pair, application, suspension, variable, permute, Substitution, substitute, composed, replacing}
 use Rattle.problem.specs.Problem.{Node, unit-form, atom-form, abstraction-form, pair-form, application-form, suspension-form}
 
 -- The tree of a node, given the trees of the nodes before it; the trees of all nodes, in their order.
@@ -40,10 +40,6 @@ pub record Binding : Type 0 where
   pub variable : ℕ
   pub value : Side
   pub equation : ℕ
-
--- [X := t]
-unfoldable pub replacing : ℕ → Tree → Substitution
-replacing X t Y = cond (eqb Y X) t (variable Y)
 
 -- "The bindings' meaning is to replace bound variables until none is left." With bindings in the order made: a binding's value, under the
 -- bindings before it, is put for its variable in all of their values.
