@@ -1,5 +1,6 @@
 -- The fields of document 01: what stands at the front of a list of bytes, and the numbers in it. Definitions alone.
-use Prim.Native.Nat.{ℕ, _+_, _*_, _/_, _%_}
+use Prim.Native.Nat.{ℕ, _+_, _*_, _/_, _%_, _<_, _≤_}
+use mathlib.Core.Path.{_≡_}
 use mathlib.Core.Bool.{cond}
 use mathlib.Core.List.{List, [], _∷_, _++_}
 use lib.ListN.{length, getD, take, drop}
@@ -13,6 +14,10 @@ pub data Field : Type 0 where
 -- "Numbers have the high byte first." The number in the byte at i, in the two bytes from i, in the four bytes from i.
 abbrev pub byte : List ℕ → ℕ → ℕ
 byte s i = getD s i 0
+
+-- A list of numbers is one of bytes: every number in it is one byte's. What a slice of bytes holds is such a list.
+abbrev pub Bytes : List ℕ → Type 0
+Bytes s = (i : ℕ) → byte s i < 256
 
 abbrev pub word : List ℕ → ℕ → ℕ
 word s i = byte s i * 256 + byte s (i + 1)
@@ -30,6 +35,14 @@ front [] = cut
 front (tag ∷ []) = cut
 front (tag ∷ high ∷ []) = cut
 front (tag ∷ high ∷ low ∷ s) = bodied tag (high * 256 + low) s
+
+-- How a whole field stands at the front: the first byte is its tag, the next two its length, and body and rest are parts of the list.
+pub record Stands (s : List ℕ) (tag : ℕ) (body rest : List ℕ) : Type 0 where
+  pub the-tag : tag ≡ byte s 0
+  pub the-length : length body ≡ word s 1
+  pub fits : 3 + length body ≤ length s
+  pub the-body : body ≡ take (length body) (drop 3 s)
+  pub the-rest : rest ≡ drop (3 + length body) s
 
 -- The other way: two and four bytes of a number, and a field's bytes.
 unfoldable pub bytes2 : ℕ → List ℕ
