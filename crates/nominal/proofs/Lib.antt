@@ -4,3 +4,4 @@ pub mod Laws
 pub mod Solutions
 pub mod Steps
 pub mod Replacing
+pub mod Decide

@@ -7,19 +7,11 @@ use mathlib.Core.List.{[], _∷_, _++_}
 use Rattle.permutation.specs.Swaps.{Swaps, act, inverse, Disagree}
 use Rattle.nominal.specs.Tree.{Tree, unit, atom, abstraction, pair, application, suspension, variable, permute, Occurs, Substitution, substitute}
 use Rattle.nominal.specs.Figure2.{Environment, _⊢_#_, _⊢_≈_, #-unit, ≈-unit, ≈-pair, ≈-function-symbol, ≈-abstraction-1, ≈-abstraction-2, ≈-atom, ≈-suspension}
+use Rattle.nominal.specs.Form.{form}
 use Rattle.nominal.specs.Solutions.{Meets, Equates}
 use Rattle.nominal.proofs.Tree.{permute-nil, substitute-permute}
 use Rattle.nominal.proofs.Figure2.{fresh-atom, fresh-abstraction, fresh-pair, fresh-application, from-atom, from-abstraction-same, from-abstraction-other, from-pair, from-application, from-suspension}
 use Rattle.nominal.proofs.Laws.{fresh-inverse, equal-symmetric, equal-where-fresh, fresh-where-equal, equal-moved, no-circle}
-
--- Which of the six forms a tree has.
-abbrev pub form : Tree → ℕ
-form unit = 0
-form (atom a) = 1
-form (abstraction a t) = 2
-form (pair s t) = 3
-form (application f t) = 4
-form (suspension π X) = 5
 
 pub form-permute : (π : Swaps) (t : Tree) → form (permute π t) ≡ form t
 form-permute π unit = refl

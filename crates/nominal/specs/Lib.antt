@@ -1,3 +1,5 @@
 pub mod Tree
 pub mod Figure2
 pub mod Solutions
+pub mod Form
+pub mod Decide
