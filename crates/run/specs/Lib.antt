@@ -1,3 +1,4 @@
 pub mod Meaning
 pub mod Run
 pub mod Answer
+pub mod Table
