@@ -1,2 +1,4 @@
 pub mod Table
 pub mod Limit
+pub mod Same
+pub mod Trees
