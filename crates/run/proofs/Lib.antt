@@ -2,3 +2,4 @@ pub mod Table
 pub mod Limit
 pub mod Same
 pub mod Trees
+pub mod Did

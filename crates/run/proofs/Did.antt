@@ -1,0 +1,147 @@
+-- What a step can do, once: document 01's cases read backwards. Every property of a step is proved from these, and not from its 36 pairs of forms.
+use Prim.Native.Nat.{ℕ, _<_}
+use native.Mathlib.Omega.{arith}
+use mathlib.Core.Path.{_≡_, refl, sym}
+use mathlib.Core.Logic.{_≢_}
+use mathlib.Core.Bool.{Bool, true, false, cond}
+use mathlib.Core.List.{List, [], _∷_, map}
+use lib.Dec.{eqb}
+use borrow.Author.Tests.{eqb-true, eqb-false}
+use Rattle.permutation.specs.Table.{Table, inverted, disagreement}
+use Rattle.nominal.specs.Tree.{substitute}
+use Rattle.problem.specs.Problem.{Form, unit-form, atom-form, abstraction-form, pair-form, application-form, suspension-form}
+use Rattle.run.specs.Meaning.{Side, sideTree, Binding, meaning, occursIn}
+use Rattle.run.specs.Run.{Ground, Subject, of-variable, of-side, top, under, resolved, Refusal, clash, inside, protection, Step, refuses, goes-on, done, bound, oneVariable, twoVariables, abstractions, leftVariable, againstUnit, againstAtom, againstAbstraction, againstPair, againstApplication, rule, step}
+use Rattle.run.proofs.Trees.{underSwap}
+
+-- Which of the six forms a top has, counted as the trees' forms are.
+abbrev pub kind : Form Table Side → ℕ
+kind unit-form = 0
+kind (atom-form a) = 1
+kind (abstraction-form a s) = 2
+kind (pair-form l r) = 3
+kind (application-form f s) = 4
+kind (suspension-form P X) = 5
+
+-- The form is no suspension of X.
+abbrev pub NotOf : ℕ → Form Table Side → Type 0
+NotOf X w = (Q : Table) → w ≢ suspension-form Q X
+
+-- Whether X occurs in the side "looked at through all bindings".
+abbrev pub occursSide : Ground → List Binding → ℕ → Side → Bool
+occursSide g bs X t = occursIn X (substitute (meaning (g .nodes) bs) (sideTree (g .nodes) t))
+
+-- What a step did with the resolved sides s and t, by their tops.
+pub data Did (g : Ground) (bs : List Binding) (s t : Side) : Form Table Side → Form Table Side → Step → Type 0 where
+  two-units : Did g bs s t unit-form unit-form done
+  same-atoms : {a : ℕ} → Did g bs s t (atom-form a) (atom-form a) done
+  same-abstractions : {a : ℕ} {u v : Side} → Did g bs s t (abstraction-form a u) (abstraction-form a v) (goes-on ((u, v) ∷ []) [] [])
+  other-abstractions : {a b : ℕ} {u v : Side} → a ≢ b → Did g bs s t (abstraction-form a u) (abstraction-form b v) (goes-on ((u, underSwap a b v) ∷ []) [] ((a, of-side v) ∷ []))
+  two-pairs : {l r v w : Side} → Did g bs s t (pair-form l r) (pair-form v w) (goes-on ((l, v) ∷ (r, w) ∷ []) [] [])
+  same-symbols : {f : ℕ} {u v : Side} → Did g bs s t (application-form f u) (application-form f v) (goes-on ((u, v) ∷ []) [] [])
+  one-variable : {P Q : Table} {X : ℕ} → Did g bs s t (suspension-form P X) (suspension-form Q X) (goes-on [] [] (map (λ a. (a, of-variable X)) (disagreement P Q)))
+  left-bound : {P : Table} {X : ℕ} {w : Form Table Side} → NotOf X w → g .protected X ≡ false → occursSide g bs X t ≡ false
+      → Did g bs s t (suspension-form P X) w (goes-on [] ((X, under (inverted P) t) ∷ []) [])
+  right-bound : {v : Form Table Side} {Q : Table} {Y : ℕ} → NotOf Y v → ((P : Table) (X : ℕ) → v ≡ suspension-form P X → g .protected X ≡ true) → g .protected Y ≡ false
+      → occursSide g bs Y s ≡ false → Did g bs s t v (suspension-form Q Y) (goes-on [] ((Y, under (inverted Q) s) ∷ []) [])
+  left-inside : {P : Table} {X : ℕ} {w : Form Table Side} → NotOf X w → g .protected X ≡ false → occursSide g bs X t ≡ true → Did g bs s t (suspension-form P X) w (refuses inside)
+  right-inside : {v : Form Table Side} {Q : Table} {Y : ℕ} → NotOf Y v → ((P : Table) (X : ℕ) → v ≡ suspension-form P X → g .protected X ≡ true) → g .protected Y ≡ false
+      → occursSide g bs Y s ≡ true → Did g bs s t v (suspension-form Q Y) (refuses inside)
+  left-protected : {P : Table} {X : ℕ} {w : Form Table Side} → kind w ≢ 5 → g .protected X ≡ true → Did g bs s t (suspension-form P X) w (refuses protection)
+  right-protected : {v : Form Table Side} {Q : Table} {Y : ℕ} → kind v ≢ 5 → g .protected Y ≡ true → Did g bs s t v (suspension-form Q Y) (refuses protection)
+  both-protected : {P Q : Table} {X Y : ℕ} → X ≢ Y → g .protected X ≡ true → g .protected Y ≡ true → Did g bs s t (suspension-form P X) (suspension-form Q Y) (refuses protection)
+  different-forms : {v w : Form Table Side} → kind v ≢ 5 → kind w ≢ 5 → kind v ≢ kind w → Did g bs s t v w (refuses clash)
+  different-atoms : {a b : ℕ} → a ≢ b → Did g bs s t (atom-form a) (atom-form b) (refuses clash)
+  different-symbols : {f h : ℕ} {u v : Side} → f ≢ h → Did g bs s t (application-form f u) (application-form h v) (refuses clash)
+
+-- Split a conditional, keeping what was decided.
+pub either : (P : Step → Type 0) (c : Bool) (x y : Step) → (c ≡ true → P x) → (c ≡ false → P y) → P (cond c x y)
+either P true x y f g = f refl
+either P false x y f g = g refl
+
+pub not-of : (X : ℕ) (w : Form Table Side) → kind w ≢ 5 → NotOf X w
+not-of X w n Q e = n (rw e)
+
+no-variable : (g : Ground) (v : Form Table Side) → kind v ≢ 5 → (P : Table) (X : ℕ) → v ≡ suspension-form P X → g .protected X ≡ true
+no-variable g v n P X e = absurd (not-of X v n P e)
+
+module _ (g : Ground) (bs : List Binding) (s t : Side) where
+  left-one : (P : Table) (X : ℕ) (w : Form Table Side) → NotOf X w → g .protected X ≡ false → Did g bs s t (suspension-form P X) w (bound g bs P X t)
+  unfolding bound
+  left-one P X w n p = either (Did g bs s t (suspension-form P X) w) (occursSide g bs X t) _ _ (left-inside n p) (left-bound n p)
+
+  left-did : (P : Table) (X : ℕ) (w : Form Table Side) → kind w ≢ 5 → Did g bs s t (suspension-form P X) w (oneVariable g bs P X t)
+  unfolding oneVariable
+  left-did P X w n = either (Did g bs s t (suspension-form P X) w) (g .protected X) _ _ (left-protected n) (left-one P X w (not-of X w n))
+
+  right-one : (v : Form Table Side) (Q : Table) (Y : ℕ) → NotOf Y v → ((P : Table) (X : ℕ) → v ≡ suspension-form P X → g .protected X ≡ true) → g .protected Y ≡ false
+      → Did g bs s t v (suspension-form Q Y) (bound g bs Q Y s)
+  unfolding bound
+  right-one v Q Y n m p = either (Did g bs s t v (suspension-form Q Y)) (occursSide g bs Y s) _ _ (right-inside n m p) (right-bound n m p)
+
+  right-did : (v : Form Table Side) (Q : Table) (Y : ℕ) → kind v ≢ 5 → Did g bs s t v (suspension-form Q Y) (oneVariable g bs Q Y s)
+  unfolding oneVariable
+  right-did v Q Y n = either (Did g bs s t v (suspension-form Q Y)) (g .protected Y) _ _ (right-protected n) (right-one v Q Y (not-of Y v n) (no-variable g v n))
+
+  two-did : (P : Table) (X : ℕ) (Q : Table) (Y : ℕ) → Did g bs s t (suspension-form P X) (suspension-form Q Y) (twoVariables g bs P X s Q Y t)
+  unfolding twoVariables oneVariable
+  two-did P X Q Y =
+      either (Did g bs s t (suspension-form P X) (suspension-form Q Y)) (eqb X Y) _ _
+      (λ e. rw (eqb-true X Y e) one-variable) λ e.
+      let n : X ≢ Y = eqb-false X Y e in
+      either (Did g bs s t (suspension-form P X) (suspension-form Q Y)) (g .protected X) _ _
+      (λ p. either (Did g bs s t (suspension-form P X) (suspension-form Q Y)) (g .protected Y) _ _ (both-protected n p)
+      (right-one (suspension-form P X) Q Y (λ R q. n (cc)) (λ R Z q. let z : Z ≡ X = cc in rw z p)))
+      (left-one P X (suspension-form Q Y) (λ R q. n (cc)))
+
+  abstractions-did : (a : ℕ) (u : Side) (b : ℕ) (v : Side) → Did g bs s t (abstraction-form a u) (abstraction-form b v) (abstractions a u b v)
+  unfolding abstractions
+  abstractions-did a u b v =
+      either (Did g bs s t (abstraction-form a u) (abstraction-form b v)) (eqb a b) _ _ (λ e. rw (eqb-true a b e) same-abstractions) (λ e. other-abstractions (eqb-false a b e))
+
+  clashing : (v w : Form Table Side) → kind v < 5 → kind w < 5 → kind v ≢ kind w → Did g bs s t v w (refuses clash)
+  clashing v w h k n = different-forms {v = v} {w = w} (λ e. omega arith) (λ e. omega arith) n
+
+  pub rule-did : (v w : Form Table Side) → Did g bs s t v w (rule g bs s t v w)
+  rule-did unit-form unit-form = two-units
+  rule-did unit-form (atom-form b) = clashing unit-form (atom-form b) (omega arith) (omega arith) (λ e. omega arith)
+  rule-did unit-form (abstraction-form b v) = clashing unit-form (abstraction-form b v) (omega arith) (omega arith) (λ e. omega arith)
+  rule-did unit-form (pair-form v w) = clashing unit-form (pair-form v w) (omega arith) (omega arith) (λ e. omega arith)
+  rule-did unit-form (application-form h v) = clashing unit-form (application-form h v) (omega arith) (omega arith) (λ e. omega arith)
+  rule-did unit-form (suspension-form Q Y) = right-did unit-form Q Y (λ e. omega arith)
+  rule-did (atom-form a) unit-form = clashing (atom-form a) unit-form (omega arith) (omega arith) (λ e. omega arith)
+  rule-did (atom-form a) (atom-form b) =
+      either (Did g bs s t (atom-form a) (atom-form b)) (eqb a b) _ _ (λ e. rw (eqb-true a b e) same-atoms) (λ e. different-atoms (eqb-false a b e))
+  rule-did (atom-form a) (abstraction-form b v) = clashing (atom-form a) (abstraction-form b v) (omega arith) (omega arith) (λ e. omega arith)
+  rule-did (atom-form a) (pair-form v w) = clashing (atom-form a) (pair-form v w) (omega arith) (omega arith) (λ e. omega arith)
+  rule-did (atom-form a) (application-form h v) = clashing (atom-form a) (application-form h v) (omega arith) (omega arith) (λ e. omega arith)
+  rule-did (atom-form a) (suspension-form Q Y) = right-did (atom-form a) Q Y (λ e. omega arith)
+  rule-did (abstraction-form a u) unit-form = clashing (abstraction-form a u) unit-form (omega arith) (omega arith) (λ e. omega arith)
+  rule-did (abstraction-form a u) (atom-form b) = clashing (abstraction-form a u) (atom-form b) (omega arith) (omega arith) (λ e. omega arith)
+  rule-did (abstraction-form a u) (abstraction-form b v) = abstractions-did a u b v
+  rule-did (abstraction-form a u) (pair-form v w) = clashing (abstraction-form a u) (pair-form v w) (omega arith) (omega arith) (λ e. omega arith)
+  rule-did (abstraction-form a u) (application-form h v) = clashing (abstraction-form a u) (application-form h v) (omega arith) (omega arith) (λ e. omega arith)
+  rule-did (abstraction-form a u) (suspension-form Q Y) = right-did (abstraction-form a u) Q Y (λ e. omega arith)
+  rule-did (pair-form l r) unit-form = clashing (pair-form l r) unit-form (omega arith) (omega arith) (λ e. omega arith)
+  rule-did (pair-form l r) (atom-form b) = clashing (pair-form l r) (atom-form b) (omega arith) (omega arith) (λ e. omega arith)
+  rule-did (pair-form l r) (abstraction-form b v) = clashing (pair-form l r) (abstraction-form b v) (omega arith) (omega arith) (λ e. omega arith)
+  rule-did (pair-form l r) (pair-form v w) = two-pairs
+  rule-did (pair-form l r) (application-form h v) = clashing (pair-form l r) (application-form h v) (omega arith) (omega arith) (λ e. omega arith)
+  rule-did (pair-form l r) (suspension-form Q Y) = right-did (pair-form l r) Q Y (λ e. omega arith)
+  rule-did (application-form f u) unit-form = clashing (application-form f u) unit-form (omega arith) (omega arith) (λ e. omega arith)
+  rule-did (application-form f u) (atom-form b) = clashing (application-form f u) (atom-form b) (omega arith) (omega arith) (λ e. omega arith)
+  rule-did (application-form f u) (abstraction-form b v) = clashing (application-form f u) (abstraction-form b v) (omega arith) (omega arith) (λ e. omega arith)
+  rule-did (application-form f u) (pair-form v w) = clashing (application-form f u) (pair-form v w) (omega arith) (omega arith) (λ e. omega arith)
+  rule-did (application-form f u) (application-form h v) =
+      either (Did g bs s t (application-form f u) (application-form h v)) (eqb f h) _ _ (λ e. rw (eqb-true f h e) same-symbols) (λ e. different-symbols (eqb-false f h e))
+  rule-did (application-form f u) (suspension-form Q Y) = right-did (application-form f u) Q Y (λ e. omega arith)
+  rule-did (suspension-form P X) unit-form = left-did P X unit-form (λ e. omega arith)
+  rule-did (suspension-form P X) (atom-form b) = left-did P X (atom-form b) (λ e. omega arith)
+  rule-did (suspension-form P X) (abstraction-form b v) = left-did P X (abstraction-form b v) (λ e. omega arith)
+  rule-did (suspension-form P X) (pair-form v w) = left-did P X (pair-form v w) (λ e. omega arith)
+  rule-did (suspension-form P X) (application-form h v) = left-did P X (application-form h v) (λ e. omega arith)
+  rule-did (suspension-form P X) (suspension-form Q Y) = two-did P X Q Y
+
+pub step-did : (g : Ground) (bs : List Binding) (l r : Side) → Did g bs (resolved g bs l) (resolved g bs r) (top g (resolved g bs l)) (top g (resolved g bs r)) (step g bs l r)
+unfolding step
+step-did g bs l r = rule-did g bs (resolved g bs l) (resolved g bs r) (top g (resolved g bs l)) (top g (resolved g bs r))
