@@ -14,7 +14,7 @@ use Rattle.permutation.specs.Swaps.{Swaps, Within}
 use Rattle.field.specs.Field.{Field, cut, whole, front, bodied, byte, word, long, Bytes}
 use Rattle.field.proofs.Front.{stands, bytes-body}
 use Rattle.problem.specs.Problem.{Node, unit-form, atom-form, abstraction-form, pair-form, application-form, suspension-form, formAt, Equal, Fresh, Assumed, Problem}
-use Rattle.problem.specs.Reader.{Item, node, equation, freshness, assumption, protection, Reading, read, refused, lengthFits, item, room, there, swapsThere, formThere, add, fault, unless, oneField, fieldsFrom, goodHead, headed, headField, readAll, reading}
+use Rattle.problem.specs.Reader.{Item, node, equation, freshness, assumption, protection, Reading, read, refused, lengthFits, item, Sizes, sizes, room, there, swapsThere, formThere, add, fault, unless, oneField, fieldsFrom, goodHead, started, headed, headField, readAll, reading}
 use Rattle.problem.specs.Readable.{Named, Readable}
 
 -- Both of two tests.
@@ -64,9 +64,9 @@ all-more : {A : Type 0} (P : A → Type 0) (l : List A) (x : A) → ((y : A) →
 all-more P l x h k y m = ⊎-elim (h y) (λ n. subst P (sym (List·Memᴰ·eq-of-singleton n)) k) (List·Memᴰ·append-cases l m)
 
 -- The item that a field says is added without harm.
-pub kept : (p : Problem) (i : Item) → Readable p → room p i ≡ true → there p i ≡ true → Readable (add p i)
-unfolding room there add
-kept p (node f) r e h =
+pub kept : (p : Problem) (o : ℕ) (i : Item) → Readable p → room (sizes p) i ≡ true → there (sizes p) i ≡ true → Readable (add p o i)
+unfolding sizes room there add
+kept p o (node f) r e h =
     record {
       few-atoms = r .few-atoms;
       few-variables = r .few-variables;
@@ -84,7 +84,7 @@ kept p (node f) r e h =
       named-assumptions = r .named-assumptions;
       named-protected = r .named-protected;
     }
-kept p (equation d) r e h =
+kept p o (equation d) r e h =
     let b = both (ltb (d .left) (length (p .nodes))) (ltb (d .right) (length (p .nodes))) h in
     record {
       few-atoms = r .few-atoms;
@@ -99,8 +99,9 @@ kept p (equation d) r e h =
       named-assumptions = r .named-assumptions;
       named-protected = r .named-protected;
     }
-kept p (freshness d) r e h =
-    let b = both (ltb (d .atom) (p .atoms)) (ltb (d .node) (length (p .nodes))) h in
+kept p o (freshness a n) r e h =
+    let d : Fresh = record { atom = a; node = n; offset = o } in
+    let b = both (ltb a (p .atoms)) (ltb n (length (p .nodes))) h in
     record {
       few-atoms = r .few-atoms;
       few-variables = r .few-variables;
@@ -114,8 +115,9 @@ kept p (freshness d) r e h =
       named-assumptions = r .named-assumptions;
       named-protected = r .named-protected;
     }
-kept p (assumption d) r e h =
-    let b = both (ltb (d .atom) (p .atoms)) (ltb (d .variable) (p .variables)) h in
+kept p o (assumption a X) r e h =
+    let d : Assumed = record { atom = a; variable = X; offset = o } in
+    let b = both (ltb a (p .atoms)) (ltb X (p .variables)) h in
     record {
       few-atoms = r .few-atoms;
       few-variables = r .few-variables;
@@ -129,7 +131,7 @@ kept p (assumption d) r e h =
       named-assumptions = all-more _ (p .assumptions) d (r .named-assumptions) (ltb-true _ _ (b .0), ltb-true _ _ (b .1));
       named-protected = r .named-protected;
     }
-kept p (protection X) r e h =
+kept p o (protection X) r e h =
     record {
       few-atoms = r .few-atoms;
       few-variables = r .few-variables;
@@ -145,11 +147,11 @@ kept p (protection X) r e h =
     }
 
 -- A field without fault: its tag is known, its length fits, and there is room for what it says, whose names are there.
-pub record Faultless (known : ℕ → Bool) (p : Problem) (o tag : ℕ) (s : List ℕ) : Type 0 where
+pub record Faultless (known : ℕ → Bool) (z : Sizes) (tag : ℕ) (s : List ℕ) : Type 0 where
   pub known-tag : known tag ≡ true
   pub right-length : lengthFits tag (length s) ≡ true
-  pub has-room : room p (item o tag s) ≡ true
-  pub all-there : there p (item o tag s) ≡ true
+  pub has-room : room z (item tag s) ≡ true
+  pub all-there : there z (item tag s) ≡ true
 
 four-tests : (a b c d : Bool) → _≡_ {A = ℕ} (cond (not a) 4 (cond (not b) 5 (cond (not c) 6 (cond (not d) 7 0)))) 0 → (a ≡ true) × (b ≡ true) × (c ≡ true) × (d ≡ true)
 four-tests true true true true e = (refl, refl, refl, refl)
@@ -158,10 +160,10 @@ four-tests true true false d e = absurd (omega arith)
 four-tests true false c d e = absurd (omega arith)
 four-tests false b c d e = absurd (omega arith)
 
-pub faultless : (known : ℕ → Bool) (p : Problem) (o tag : ℕ) (s : List ℕ) → fault known p o tag s ≡ 0 → Faultless known p o tag s
+pub faultless : (known : ℕ → Bool) (z : Sizes) (tag : ℕ) (s : List ℕ) → fault known z tag s ≡ 0 → Faultless known z tag s
 unfolding fault
-faultless known p o tag s e =
-    let f = four-tests (known tag) (lengthFits tag (length s)) (room p (item o tag s)) (there p (item o tag s)) e in
+faultless known z tag s e =
+    let f = four-tests (known tag) (lengthFits tag (length s)) (room z (item tag s)) (there z (item tag s)) e in
     record { known-tag = f .0; right-length = f .1; has-room = f .2; all-there = f .3 }
 
 pub without-fault : (f o : ℕ) (r : Reading) (p : Problem) → unless f o r ≡ read p → (f ≡ 0) × (r ≡ read p)
@@ -180,9 +182,9 @@ one-kept : (known : ℕ → Bool) (p q : Problem) (o : ℕ) (onward : Problem �
     → Readable p → oneField known p o onward f ≡ read q → Readable q
 one-kept known p q o onward cut go r e = let z : _≡_ {A = ℕ} 0 1 = cc in absurd (omega arith)
 one-kept known p q o onward (whole tag s rest) go r e =
-    let u = without-fault (fault known p o tag s) o _ q e in
-    let f = faultless known p o tag s (u .0) in
-    go (add p (item o tag s)) _ rest (kept p (item o tag s) r (f .has-room) (f .all-there)) (u .1)
+    let u = without-fault (fault known (sizes p) tag s) o _ q e in
+    let f = faultless known (sizes p) tag s (u .0) in
+    go (add p o (item tag s)) _ rest (kept p o (item tag s) r (f .has-room) (f .all-there)) (u .1)
 
 pub fields-readable : (known : ℕ → Bool) (k : ℕ) (p q : Problem) (o : ℕ) (s : List ℕ) → Readable p → fieldsFrom known k p o s ≡ read q → Readable q
 unfolding fieldsFrom
@@ -196,7 +198,7 @@ small-long : (s : List ℕ) → Bytes s → long s 2 < 2 ^ 32
 small-long s b = omega (arith, b 2, b 3, b 4, b 5)
 
 pub headed-readable : (tag : ℕ) (s : List ℕ) → Bytes s → goodHead tag s ≡ true → Readable (headed s)
-unfolding goodHead headed
+unfolding goodHead started headed
 headed-readable tag s b e =
     let g = both (eqb tag 0x01) (eqb (length s) 6 && (leb (byte s 0) 32 && leb (byte s 1) 64)) e in
     let h = both (eqb (length s) 6) (leb (byte s 0) 32 && leb (byte s 1) 64) (g .1) in

@@ -9,12 +9,13 @@ use Rattle.permutation.specs.Swaps.{Swaps}
 use Rattle.field.specs.Field.{Field, cut, whole, byte, word, long, front}
 use Rattle.problem.specs.Problem.{Node, unit-form, atom-form, abstraction-form, pair-form, application-form, suspension-form, Equal, Fresh, Assumed, Problem}
 
--- What a field after the head says.
+-- What a field after the head says: a node, an equation, a freshness field of an atom and a node, an assumption of an atom and a variable, a
+-- protected variable.
 pub data Item : Type 0 where
   node : Node → Item
   equation : Equal → Item
-  freshness : Fresh → Item
-  assumption : Assumed → Item
+  freshness : ℕ → ℕ → Item
+  assumption : ℕ → ℕ → Item
   protection : ℕ → Item
 
 pub data Reading : Type 0 where
@@ -46,9 +47,9 @@ swapsIn [] = []
 swapsIn (a ∷ []) = []
 swapsIn (a ∷ b ∷ s) = (a, b) ∷ swapsIn s
 
--- The table's column "body"; o is the field's offset.
-unfoldable pub item : ℕ → ℕ → List ℕ → Item
-item o tag s =
+-- The table's column "body".
+unfoldable pub item : ℕ → List ℕ → Item
+item tag s =
     cond (eqb tag 0x10) (node unit-form)
     (cond (eqb tag 0x11) (node (atom-form (byte s 0)))
     (cond (eqb tag 0x12) (node (abstraction-form (byte s 0) (word s 1)))
@@ -56,17 +57,28 @@ item o tag s =
     (cond (eqb tag 0x14) (node (application-form (word s 0) (word s 2)))
     (cond (eqb tag 0x15) (node (suspension-form (swapsIn (drop 1 s)) (byte s 0)))
     (cond (eqb tag 0x20) (equation (record { left = word s 0; right = word s 2 }))
-    (cond (eqb tag 0x21) (freshness (record { atom = byte s 0; node = word s 1; offset = o }))
-    (cond (eqb tag 0x22) (assumption (record { atom = byte s 0; variable = byte s 1; offset = o }))
+    (cond (eqb tag 0x21) (freshness (byte s 0) (word s 1))
+    (cond (eqb tag 0x22) (assumption (byte s 0) (byte s 1))
     (protection (byte s 0))))))))))
 
+-- How many atoms and variables there are, and how many nodes, equations and freshness fields so far: all that decides whether a field is at fault.
+pub record Sizes : Type 0 where
+  pub atoms : ℕ
+  pub variables : ℕ
+  pub nodes : ℕ
+  pub equations : ℕ
+  pub freshness : ℕ
+
+unfoldable pub sizes : Problem → Sizes
+sizes p = record { atoms = p .atoms; variables = p .variables; nodes = length (p .nodes); equations = length (p .equations); freshness = length (p .freshness) }
+
 -- "At most 512 nodes, 64 equations and 64 freshness fields; 22 and 30 may repeat".
-unfoldable pub room : Problem → Item → Bool
-room p (node n) = ltb (length (p .nodes)) 512
-room p (equation e) = ltb (length (p .equations)) 64
-room p (freshness d) = ltb (length (p .freshness)) 64
-room p (assumption d) = true
-room p (protection X) = true
+unfoldable pub room : Sizes → Item → Bool
+room z (node n) = ltb (z .nodes) 512
+room z (equation e) = ltb (z .equations) 64
+room z (freshness a n) = ltb (z .freshness) 64
+room z (assumption a X) = true
+room z (protection X) = true
 
 -- "atom, variable or node not there"; "a node is named only after its field": as many atoms, variables and, so far, nodes.
 abbrev pub swapsThere : ℕ → Swaps → Bool
@@ -81,33 +93,33 @@ formThere atoms variables nodes (pair-form l r) = ltb l nodes && ltb r nodes
 formThere atoms variables nodes (application-form f n) = ltb n nodes
 formThere atoms variables nodes (suspension-form π X) = ltb X variables && swapsThere atoms π
 
-unfoldable pub there : Problem → Item → Bool
-there p (node n) = formThere (p .atoms) (p .variables) (length (p .nodes)) n
-there p (equation e) = ltb (e .left) (length (p .nodes)) && ltb (e .right) (length (p .nodes))
-there p (freshness d) = ltb (d .atom) (p .atoms) && ltb (d .node) (length (p .nodes))
-there p (assumption d) = ltb (d .atom) (p .atoms) && ltb (d .variable) (p .variables)
-there p (protection X) = ltb X (p .variables)
+unfoldable pub there : Sizes → Item → Bool
+there z (node n) = formThere (z .atoms) (z .variables) (z .nodes) n
+there z (equation e) = ltb (e .left) (z .nodes) && ltb (e .right) (z .nodes)
+there z (freshness a n) = ltb a (z .atoms) && ltb n (z .nodes)
+there z (assumption a X) = ltb a (z .atoms) && ltb X (z .variables)
+there z (protection X) = ltb X (z .variables)
 
-unfoldable pub add : Problem → Item → Problem
-add p (node n) =
+-- What a field says is set behind what the fields before it said; o is the field's offset.
+unfoldable pub add : Problem → ℕ → Item → Problem
+add p o (node n) =
     record { atoms = p .atoms; variables = p .variables; limit = p .limit; nodes = p .nodes ++ (n ∷ []); equations = p .equations; freshness = p .freshness; assumptions = p .assumptions; protected = p .protected }
-add p (equation e) =
+add p o (equation e) =
     record { atoms = p .atoms; variables = p .variables; limit = p .limit; nodes = p .nodes; equations = p .equations ++ (e ∷ []); freshness = p .freshness; assumptions = p .assumptions; protected = p .protected }
-add p (freshness d) =
-    record { atoms = p .atoms; variables = p .variables; limit = p .limit; nodes = p .nodes; equations = p .equations; freshness = p .freshness ++ (d ∷ []); assumptions = p .assumptions; protected = p .protected }
-add p (assumption d) =
-    record { atoms = p .atoms; variables = p .variables; limit = p .limit; nodes = p .nodes; equations = p .equations; freshness = p .freshness; assumptions = p .assumptions ++ (d ∷ []); protected = p .protected }
-add p (protection X) =
+add p o (freshness a n) =
+    record { atoms = p .atoms; variables = p .variables; limit = p .limit; nodes = p .nodes; equations = p .equations; freshness = p .freshness ++ (record { atom = a; node = n; offset = o } ∷ []); assumptions = p .assumptions; protected = p .protected }
+add p o (assumption a X) =
+    record { atoms = p .atoms; variables = p .variables; limit = p .limit; nodes = p .nodes; equations = p .equations; freshness = p .freshness; assumptions = p .assumptions ++ (record { atom = a; variable = X; offset = o } ∷ []); protected = p .protected }
+add p o (protection X) =
     record { atoms = p .atoms; variables = p .variables; limit = p .limit; nodes = p .nodes; equations = p .equations; freshness = p .freshness; assumptions = p .assumptions; protected = p .protected ++ (X ∷ []) }
 
 -- "within a field the order is 3, then 2 (first field only ..), 4, 5, 6, 7": the number that refuses a whole field after the head, or 0.
-unfoldable pub fault : (ℕ → Bool) → Problem → ℕ → ℕ → List ℕ → ℕ
-unfolding item
-fault known p o tag s =
+unfoldable pub fault : (ℕ → Bool) → Sizes → ℕ → List ℕ → ℕ
+fault known z tag s =
     cond (not (known tag)) 4
     (cond (not (lengthFits tag (length s))) 5
-    (cond (not (room p (item o tag s))) 6
-    (cond (not (there p (item o tag s))) 7 0)))
+    (cond (not (room z (item tag s))) 6
+    (cond (not (there z (item tag s))) 7 0)))
 
 -- A fault refuses at its field's offset; without one the reading goes on.
 abbrev pub unless : ℕ → ℕ → Reading → Reading
@@ -118,10 +130,11 @@ unless (suc f) o r = refused (suc f) o
 abbrev pub oneField : (ℕ → Bool) → Problem → ℕ → (Problem → ℕ → List ℕ → Reading) → Field → Reading
 oneField known p o onward cut = refused 3 o
 oneField known p o onward (whole tag s rest) =
-    let r : Reading = onward (add p (item o tag s)) (o + (3 + length s)) rest in unless (fault known p o tag s) o r
+    let r : Reading = onward (add p o (item tag s)) (o + (3 + length s)) rest in unless (fault known (sizes p) tag s) o r
 
 -- The fields from offset o on. The first number only bounds how many there can be: as many as bytes are enough.
 unfoldable pub fieldsFrom : (ℕ → Bool) → ℕ → Problem → ℕ → List ℕ → Reading
+unfolding sizes
 fieldsFrom known zero p o s = read p
 fieldsFrom known (suc k) p o [] = read p
 fieldsFrom known (suc k) p o (b ∷ s) = oneField known p o (λ q i r. fieldsFrom known k q i r) (front (b ∷ s))
@@ -131,9 +144,12 @@ unfoldable pub goodHead : ℕ → List ℕ → Bool
 goodHead tag s = eqb tag 0x01 && (eqb (length s) 6 && (leb (byte s 0) 32 && leb (byte s 1) 64))
 
 -- "atoms A (0 to 32), variables V (0 to 64), step limit L (4 bytes)".
+unfoldable pub started : ℕ → ℕ → ℕ → Problem
+started atoms variables limit = record { atoms = atoms; variables = variables; limit = limit; nodes = []; equations = []; freshness = []; assumptions = []; protected = [] }
+
 unfoldable pub headed : List ℕ → Problem
-headed s =
-    record { atoms = byte s 0; variables = byte s 1; limit = long s 2; nodes = []; equations = []; freshness = []; assumptions = []; protected = [] }
+unfolding started
+headed s = started (byte s 0) (byte s 1) (long s 2)
 
 unfoldable pub headField : (ℕ → Bool) → Field → Reading
 headField known cut = refused 3 0
