@@ -1,19 +1,19 @@
 -- The laws of tables of images, of any length, and that tables and lists of swaps agree, both ways.
 use Prim.Native.Nat.{ℕ, zero, suc, _+_, _≤_, _<_}
-use native.Mathlib.Nat.{add-zero, add-suc, suc-add, zero-add}
+use native.Mathlib.Nat.{add-zero, zero-add}
 use native.Mathlib.Omega.{arith}
 use native.Mathlib.Decide.{decLe}
 use mathlib.Core.Path.{_≡_, refl, sym, _∙_, ap}
-use mathlib.Core.Logic.{_≢_, _↔_, _⊎_, inl, inr}
+use mathlib.Core.Logic.{_≢_, _↔_}
 use mathlib.Core.Bool.{Bool, true, false, cond, not, true≢false}
 use mathlib.Core.List.{List, [], _∷_, _++_, map, List·Memᴰ, List·Memᴰ·head, List·Memᴰ·tail}
 use lib.ListN.{length, getD, length-map, List·getD-map, List·getD-eq-default}
 use lib.Seq.{ext-getD}
 use lib.Dec.{eqb}
-use borrow.Author.Tests.{eq-eqb, ne-eqb, eqb-true, eqb-false}
+use borrow.Author.Tests.{eq-eqb, ne-eqb, eqb-false}
 use Rattle.permutation.specs.Swaps.{Swaps, swapped, act, inverse, Disagree, Alike, Within}
-use Rattle.permutation.specs.Table.{Table, image, from, upto, tabulate, identity, after, place, inverted, ofSwaps, swappedAfter, kept, disagreement, Permutes, Unwound, before, unwind, cycles, swapsOf}
-use Rattle.permutation.proofs.Swaps.{by-eq, swapped-left, swapped-right, swapped-other, swapped-twice, swapped-within, act-append, act-inverse, inverse-act, act-injective, within, outside, within-append, within-inverse}
+use Rattle.permutation.specs.Table.{Table, image, from, upto, tabulate, identity, after, placeFrom, place, inverted, ofSwaps, swappedAfter, kept, disagreement, Permutes, Unwound, before, unwind, cycles, swapsOf}
+use Rattle.permutation.proofs.Swaps.{by-eq, swapped-right, swapped-other, swapped-twice, swapped-within, act-append, act-inverse, act-injective, within, outside, within-append, within-inverse}
 
 -- Split on whether an atom has a place.
 pub by-lt : (a n : ℕ) {R : Type 0} → (a < n → R) → (n ≤ a → R) → R
@@ -307,19 +307,20 @@ onto P m b h =
     )
 
 -- An entry stands at its place, and nowhere before.
+placeFrom-holds : (i : ℕ) (P : Table) (a d : ℕ) → a < length P → (k : ℕ) × ((placeFrom i (getD P a d) P ≡ i + k) × ((k ≤ a) × (getD P k d ≡ getD P a d)))
+placeFrom-holds i [] a d h = absurd (omega arith)
+placeFrom-holds i (b ∷ P) zero d h = (0, (rw (eq-eqb b b refl) (omega arith), (omega arith, refl)))
+placeFrom-holds i (b ∷ P) (suc a) d h =
+    by-eq (getD P a d) b (λ e. (0, (rw (eq-eqb (getD P a d) b e) (omega arith), (omega arith, sym e)))) λ n.
+    let (k, (e, (l, g))) = placeFrom-holds (suc i) P a d (omega arith) in
+    (suc k, (rw (ne-eqb (getD P a d) b n) (e ∙ omega arith), (omega arith, g)))
+
 pub place-first : (P : Table) (a d : ℕ) → a < length P → place (getD P a d) P ≤ a
-place-first [] a d h = absurd (omega arith)
-place-first (b ∷ P) zero d h = rw (eq-eqb b b refl) (omega arith)
-place-first (b ∷ P) (suc a) d h =
-    by-eq (getD P a d) b (λ e. rw (eq-eqb (getD P a d) b e) (omega arith)) λ n.
-    rw (ne-eqb (getD P a d) b n) (omega (arith, place-first P a d (omega arith)))
+place-first P a d h = let (k, (e, (l, g))) = placeFrom-holds 0 P a d h in omega arith
 
 pub place-holds : (P : Table) (a d : ℕ) → a < length P → getD P (place (getD P a d) P) d ≡ getD P a d
-place-holds [] a d h = absurd (omega arith)
-place-holds (b ∷ P) zero d h = rw (eq-eqb b b refl)
-place-holds (b ∷ P) (suc a) d h =
-    by-eq (getD P a d) b (λ e. rw (eq-eqb (getD P a d) b e) (sym e)) λ n.
-    rw (ne-eqb (getD P a d) b n) (place-holds P a d (omega arith))
+place-holds P a d h =
+    let (k, (e, (l, g))) = placeFrom-holds 0 P a d h in rw (e, zero-add k) g
 
 pub place-image : (P : Table) (a : ℕ) → Permutes P → a < length P → place (image P a) P ≡ a
 place-image P a m h =

@@ -1,2 +1,3 @@
 pub mod Swaps
 pub mod Table
+pub mod Store

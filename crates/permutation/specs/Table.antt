@@ -33,10 +33,13 @@ identity n = upto n
 unfoldable pub after : Table → Table → Table
 after P Q = map (image P) Q
 
--- Where an atom first stands in a table.
+-- Where an atom first stands in a table whose first place is i; 0 if nowhere.
+abbrev pub placeFrom : ℕ → ℕ → Table → ℕ
+placeFrom i a [] = 0
+placeFrom i a (b ∷ P) = cond (eqb a b) i (placeFrom (suc i) a P)
+
 abbrev pub place : ℕ → Table → ℕ
-place a [] = 0
-place a (b ∷ P) = cond (eqb a b) 0 (suc (place a P))
+place a P = placeFrom 0 a P
 
 unfoldable pub inverted : Table → Table
 inverted P = tabulate (length P) (λ a. place a P)

@@ -1,1 +1,156 @@
-// Permutations of up to 32 atoms.
+// Permutations of up to 32 atoms, by value. Each contract equates the result with a definition of specs/Table.antt, for every content of the
+// arrays, so a caller knows a permutation by its operations and never by its store. The number of atoms in use, n, is a parameter: the cost of
+// an operation follows n and not 32.
+
+ghost use mathlib.Core.Path.{_≡_};
+ghost use Prim.Native.Nat.{_≤_};
+ghost use Rattle.permutation.specs.Swaps.{swapped, Within};
+ghost use Rattle.permutation.specs.Table.{image, identity, after, inverted, ofSwaps, swappedAfter, disagreement};
+ghost use Rattle.permutation.specs.Store.{table, ofTable, swapsIn, disagreeAt, setOf};
+use names::Atom;
+
+pub struct Permutation {
+    pub images: [u8; 32],
+}
+
+// The permutation that sends each of n atoms to itself.
+pub fn identity(n: usize) -> Permutation
+    requires { ⌜ n ≤ 32 ⌝ }
+    ensures { λ r. ⌜ r ≡ ofTable (identity n) ⌝ }
+{
+    let mut r = Permutation { images: [0; 32] };
+    let mut i: usize = 0;
+    while i < n {
+        r.images[i] = i as u8;
+        i += 1;
+    }
+    r
+}
+
+// The image of an atom: itself, if it is none of the n.
+pub fn image(p: Permutation, n: usize, a: Atom) -> Atom
+    requires { ⌜ n ≤ 32 ⌝ }
+    ensures { λ r. ⌜ r .0 ≡ image (table n p) (a .0) ⌝ }
+{
+    let i = a.0 as usize;
+    if i < n {
+        return Atom(p.images[i]);
+    }
+    a
+}
+
+// First q, then p.
+pub fn compose(p: Permutation, q: Permutation, n: usize) -> Permutation
+    requires { ⌜ n ≤ 32 ⌝ }
+    ensures { λ r. ⌜ r ≡ ofTable (after (table n p) (table n q)) ⌝ }
+{
+    let mut r = Permutation { images: [0; 32] };
+    let mut i: usize = 0;
+    while i < n {
+        let b = q.images[i];
+        let k = b as usize;
+        if k < n {
+            r.images[i] = p.images[k];
+        } else {
+            r.images[i] = b;
+        }
+        i += 1;
+    }
+    r
+}
+
+// The inverse. An atom that is no image gets 0; of several places the first counts, so the loop runs down.
+pub fn invert(p: Permutation, n: usize) -> Permutation
+    requires { ⌜ n ≤ 32 ⌝ }
+    ensures { λ r. ⌜ r ≡ ofTable (inverted (table n p)) ⌝ }
+{
+    let mut r = Permutation { images: [0; 32] };
+    let mut i = n;
+    while 0 < i {
+        i -= 1;
+        let k = p.images[i] as usize;
+        if k < n {
+            r.images[k] = i as u8;
+        }
+    }
+    r
+}
+
+// An atom under one swap.
+pub fn swap_atom(a: Atom, b: Atom, c: Atom) -> Atom
+    ensures { λ r. ⌜ r .0 ≡ swapped (a .0) (b .0) (c .0) ⌝ }
+{
+    let x = a.0;
+    let y = b.0;
+    let k = c.0;
+    if k == x {
+        return b;
+    }
+    if k == y {
+        return a;
+    }
+    c
+}
+
+// First p, then the swap of a and b.
+pub fn swap_after(a: Atom, b: Atom, p: Permutation, n: usize) -> Permutation
+    requires { ⌜ n ≤ 32 ⌝ }
+    ensures { λ r. ⌜ r ≡ ofTable (swappedAfter (a .0) (b .0) (table n p)) ⌝ }
+{
+    let mut r = Permutation { images: [0; 32] };
+    let mut i: usize = 0;
+    while i < n {
+        let k = swap_atom(a, b, Atom(p.images[i]));
+        r.images[i] = k.0;
+        i += 1;
+    }
+    r
+}
+
+// The permutation of a suspension's swaps, as the problem's bytes have them: the rightmost acts first. From left to right, one more swap of a
+// and b on the right exchanges the images of a and b.
+pub fn of_swaps(s: &[u8], n: usize) -> Permutation
+    requires { ⌜ (n ≤ 32) × Within n (swapsIn (now s)) ⌝ }
+    ensures { λ r. ⌜ r ≡ ofTable (ofSwaps n (swapsIn (now (s .entry)))) ⌝ }
+{
+    let mut r = identity(n);
+    let mut i: usize = 0;
+    while i + 1 < s.len() {
+        let a = s[i] as usize;
+        let b = s[i + 1] as usize;
+        let x = r.images[a];
+        let y = r.images[b];
+        r.images[a] = y;
+        r.images[b] = x;
+        i += 2;
+    }
+    r
+}
+
+// Whether p and q send an atom to different atoms.
+pub fn disagree(p: Permutation, q: Permutation, n: usize, a: Atom) -> bool
+    requires { ⌜ n ≤ 32 ⌝ }
+    ensures { λ r. ⌜ r ≡ disagreeAt (table n p) (table n q) (a .0) ⌝ }
+{
+    let x = image(p, n, a);
+    let y = image(q, n, a);
+    x.0 != y.0
+}
+
+// The disagreement set, as a set of 32 bits.
+pub fn disagreement_set(p: Permutation, q: Permutation, n: usize) -> u32
+    requires { ⌜ n ≤ 32 ⌝ }
+    ensures { λ r. ⌜ r ≡ setOf (disagreement (table n p) (table n q)) ⌝ }
+{
+    let mut set: u64 = 0;
+    let mut bit: u64 = 1;
+    let mut i: usize = 0;
+    while i < n {
+        if p.images[i] != q.images[i] {
+            set += bit;
+        }
+        bit *= 2;
+        i += 1;
+    }
+    set as u32
+}

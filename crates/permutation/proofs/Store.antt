@@ -1,0 +1,284 @@
+-- The laws of the store: what it holds of a table, and how a loop fills it.
+use Prim.Native.Nat.{ℕ, zero, suc, _+_, _-_, _^_, _≤_, _<_}
+use native.Mathlib.Nat.{add-zero, add-suc, suc-add, zero-add, two-pow-succ}
+use native.Mathlib.Numerals.{add-one}
+use native.Mathlib.Omega.{arith}
+use mathlib.Core.Path.{_≡_, refl, sym, _∙_, ap, subst}
+use mathlib.Core.Logic.{_≢_}
+use mathlib.Core.Bool.{Bool, true, false, cond}
+use mathlib.Core.List.{List, [], _∷_, _++_, map, map-append, map-id, append-assoc, append-nil}
+use lib.ListN.{length, getD, take, drop, set, replicate, length-append, length-take, length-drop, List·getD-append, length-map, length-replicate, length-set, drop-of-length-le, replicate-append-replicate}
+use lib.Seq.{take-at, set-at, set-append-left, append-snoc, length-take-le, getD-take, getD-set-same, getD-set-other, drop-cons}
+use lib.Dec.{eqb}
+use borrow.Author.Tests.{eq-eqb, ne-eqb}
+use Rattle.permutation.specs.Swaps.{Swaps, swapped, act, Within}
+use Rattle.permutation.specs.Table.{Table, image, from, upto, tabulate, identity, after, placeFrom, place, inverted, ofSwaps, swappedAfter, kept, disagreement}
+use Rattle.permutation.specs.Store.{table, padded, ofTable, swapsIn, disagreeAt, setOf}
+use Rattle.permutation.specs.declared.Permutation.{Permutation}
+use Rattle.permutation.proofs.Swaps.{by-eq, act-append, swapped-left, swapped-right, swapped-other}
+use Rattle.permutation.proofs.Table.{image-out, table-extensional, getD-default, image-map, image-tabulate, length-from, length-tabulate, length-ofSwaps, image-ofSwaps, ofSwaps-none}
+
+-- ---- table and store
+
+pub length-table : (n : ℕ) (p : Permutation) → n ≤ length (p .images) → length (table n p) ≡ n
+unfolding table
+length-table n p h = length-take-le n (p .images) h
+
+pub image-table : (n : ℕ) (p : Permutation) (a : ℕ) → a < n → n ≤ length (p .images) → image (table n p) a ≡ getD (p .images) a 0
+unfolding table
+image-table n p a h k = getD-take n (p .images) a a h ∙ getD-default (p .images) a a 0 (omega arith)
+
+pub image-table-out : (n : ℕ) (p : Permutation) (a : ℕ) → n ≤ a → image (table n p) a ≡ a
+unfolding table
+image-table-out n p a h = image-out (take n (p .images)) a (rw length-take (omega arith))
+
+-- What is put into the store is what is read back.
+pub table-ofTable : (n : ℕ) (P : Table) → length P ≡ n → table n (ofTable P) ≡ P
+unfolding table ofTable padded
+table-ofTable n P l = take-at P (replicate (32 - length P) 0) n l
+
+pub length-padded : (P : Table) → length P ≤ 32 → length (padded P) ≡ 32
+unfolding padded
+length-padded P h = simp (length-append, length-replicate) (omega arith)
+
+-- A permutation is the table that its store holds.
+pub stored : (p : Permutation) (P : Table) → p .images ≡ padded P → p ≡ ofTable P
+unfolding ofTable
+stored p P e = ap (λ (l : List ℕ). record { images = l }) e
+
+-- ---- filling the store from the front
+
+from-suc : (i n : ℕ) → from i (suc n) ≡ from i n ++ ((i + n) ∷ [])
+from-suc i zero = rw add-zero
+from-suc i (suc n) = ap (λ (l : List ℕ). i ∷ l) (from-suc (suc i) n ∙ rw (suc-add, add-suc))
+
+pub tabulate-suc : (n : ℕ) (f : ℕ → ℕ) → tabulate (suc n) f ≡ tabulate n f ++ (f n ∷ [])
+tabulate-suc n f = ap (map f) (from-suc 0 n) ∙ rw (map-append, zero-add)
+
+pub fill-none : (f : ℕ → ℕ) → replicate 32 0 ≡ padded (tabulate 0 f)
+unfolding padded
+fill-none f = refl
+
+fill-end : (P : Table) (i v : ℕ) → length P ≡ i → i < 32 → set (padded P) i v ≡ padded (P ++ (v ∷ []))
+unfolding padded
+fill-end P i v l h =
+    let r : 32 - i ≡ suc (32 - (i + 1)) = omega arith in
+    rw (length-append P (v ∷ []), l, r, append-snoc) (set-at P 0 (replicate (32 - (i + 1)) 0) v i l)
+
+pub fill-more : (i : ℕ) (f : ℕ → ℕ) (v : ℕ) → i < 32 → v ≡ f i → set (padded (tabulate i f)) i v ≡ padded (tabulate (i + 1) f)
+fill-more i f v h e =
+    fill-end (tabulate i f) i v (length-tabulate i f) h
+    ∙ ap padded (ap (λ (x : ℕ). tabulate i f ++ (x ∷ [])) e ∙ sym (tabulate-suc i f) ∙ ap (λ (k : ℕ). tabulate k f) (sym (add-one i)))
+
+-- ---- the definitions as tabulated functions
+
+pub map-tabulate : (f : ℕ → ℕ) (P : Table) (n : ℕ) → length P ≡ n → map f P ≡ tabulate n (λ a. f (image P a))
+map-tabulate f P n l =
+    table-extensional (map f P) (tabulate n (λ a. f (image P a))) (simp (length-map, length-from) l) λ a h.
+    let k : a < length P = rw length-map at h in image-map f P a k ∙ sym (image-tabulate n (λ b. f (image P b)) a (omega arith))
+
+pub identity-tabulate : (n : ℕ) → identity n ≡ tabulate n (λ a. a)
+identity-tabulate n = sym (map-id (upto n))
+
+pub after-tabulate : (P Q : Table) (n : ℕ) → length Q ≡ n → after P Q ≡ tabulate n (λ a. image P (image Q a))
+unfolding after
+after-tabulate P Q n l = map-tabulate (image P) Q n l
+
+pub swappedAfter-tabulate : (a b : ℕ) (P : Table) (n : ℕ) → length P ≡ n → swappedAfter a b P ≡ tabulate n (λ c. swapped a b (image P c))
+unfolding swappedAfter
+swappedAfter-tabulate a b P n l = map-tabulate (swapped a b) P n l
+
+pub tabulate-same : (n : ℕ) (f g : ℕ → ℕ) → ((a : ℕ) → a < n → f a ≡ g a) → tabulate n f ≡ tabulate n g
+tabulate-same n f g h =
+    table-extensional (tabulate n f) (tabulate n g) (length-tabulate n f ∙ sym (length-tabulate n g)) λ a k.
+    let l : a < n = rw length-tabulate at k in image-tabulate n f a l ∙ h a l ∙ sym (image-tabulate n g a l)
+
+-- The image of an image, as composing reads it: from the second store where there is one.
+module _ (n : ℕ) (p q : Permutation) (i : ℕ) (h : i < n) (k : n ≤ length (q .images)) where
+  pub compose-inside : n ≤ length (p .images) → getD (q .images) i 0 < n → getD (p .images) (getD (q .images) i 0) 0 ≡ image (table n p) (image (table n q) i)
+  compose-inside l m = sym (ap (image (table n p)) (image-table n q i h k) ∙ image-table n p (getD (q .images) i 0) m l)
+
+  pub compose-outside : n ≤ getD (q .images) i 0 → getD (q .images) i 0 ≡ image (table n p) (image (table n q) i)
+  compose-outside m = sym (ap (image (table n p)) (image-table n q i h k) ∙ image-table-out n p (getD (q .images) i 0) m)
+
+-- ---- storing at one place
+
+set-tabulate : (n k v : ℕ) (f : ℕ → ℕ) → k < n → set (tabulate n f) k v ≡ tabulate n (λ a. cond (eqb a k) v (f a))
+set-tabulate n k v f h =
+    table-extensional (set (tabulate n f) k v) (tabulate n (λ a. cond (eqb a k) v (f a)))
+    (length-set (tabulate n f) k v ∙ length-tabulate n f ∙ sym (length-tabulate n (λ a. cond (eqb a k) v (f a)))) λ a i.
+    let j : a < n = rw (length-set, length-tabulate) at i in
+    (by-eq a k (λ e. rw (eq-eqb a k e, e) (getD-set-same (tabulate n f) k v k (rw length-tabulate h))) λ m.
+    rw (ne-eqb a k m) (getD-set-other (tabulate n f) k a v a m ∙ image-tabulate n f a j))
+    ∙ sym (image-tabulate n (λ b. cond (eqb b k) v (f b)) a j)
+
+pub store-at : (n k v : ℕ) (f : ℕ → ℕ) → k < n → set (padded (tabulate n f)) k v ≡ padded (tabulate n (λ a. cond (eqb a k) v (f a)))
+unfolding padded
+store-at n k v f h =
+    set-append-left (tabulate n f) (replicate (32 - length (tabulate n f)) 0) k v (rw length-tabulate h)
+    ∙ ap (λ (l : ℕ). set (tabulate n f) k v ++ replicate (32 - l) 0) (length-tabulate n f ∙ sym (length-tabulate n (λ a. cond (eqb a k) v (f a))))
+    ∙ ap (λ (P : Table). P ++ replicate (32 - length (tabulate n (λ a. cond (eqb a k) v (f a)))) 0) (set-tabulate n k v f h)
+
+-- ---- inverting: the loop runs down, so that the first place is stored last
+
+abbrev pub invertedFrom : ℕ → Table → ℕ → List ℕ
+invertedFrom n P i = padded (tabulate n (λ a. placeFrom i a (drop i P)))
+
+zeros : (i n : ℕ) → map {B = ℕ} (λ (a : ℕ). 0) (from i n) ≡ replicate n 0
+zeros i zero = refl
+zeros i (suc n) = ap (λ (l : List ℕ). 0 ∷ l) (zeros (suc i) n)
+
+pub invert-none : (n : ℕ) (P : Table) → length P ≡ n → n ≤ 32 → replicate 32 0 ≡ invertedFrom n P n
+unfolding padded
+invert-none n P l h =
+    let e : drop n P ≡ [] = drop-of-length-le P {i = n} (omega arith) in
+    let m : n + (32 - n) ≡ 32 = omega arith in
+    ap (λ (k : ℕ). replicate k 0) (sym m)
+    ∙ sym (rw (e, length-tabulate, zeros) (replicate-append-replicate n (32 - n) 0))
+
+module _ (n : ℕ) (P : Table) (l : length P ≡ n) (i : ℕ) (h : 0 < i) (k : i ≤ n) where
+  invert-turn : (a : ℕ) → placeFrom (i - 1) a (drop (i - 1) P) ≡ cond (eqb a (image P (i - 1))) (i - 1) (placeFrom i a (drop i P))
+  invert-turn a =
+      let e : suc (i - 1) ≡ i = omega arith in
+      ap (placeFrom (i - 1) a) (drop-cons P (i - 1) (i - 1) (omega arith))
+      ∙ ap (λ (j : ℕ). cond (eqb a (image P (i - 1))) (i - 1) (placeFrom j a (drop j P))) e
+
+  pub invert-store : image P (i - 1) < n → set (invertedFrom n P i) (image P (i - 1)) (i - 1) ≡ invertedFrom n P (i - 1)
+  invert-store m =
+      store-at n (image P (i - 1)) (i - 1) (λ a. placeFrom i a (drop i P)) m
+      ∙ ap padded (sym (tabulate-same n (λ a. placeFrom (i - 1) a (drop (i - 1) P)) (λ a. cond (eqb a (image P (i - 1))) (i - 1) (placeFrom i a (drop i P))) (λ a j. invert-turn a)))
+
+  pub invert-skip : n ≤ image P (i - 1) → invertedFrom n P i ≡ invertedFrom n P (i - 1)
+  invert-skip m =
+      ap padded (tabulate-same n (λ a. placeFrom i a (drop i P)) (λ a. placeFrom (i - 1) a (drop (i - 1) P)) λ a j.
+      sym (invert-turn a ∙ rw (ne-eqb a (image P (i - 1)) (λ e. omega arith))))
+
+pub invert-all : (n : ℕ) (P : Table) → length P ≡ n → invertedFrom n P 0 ≡ padded (inverted P)
+unfolding inverted
+invert-all n P l = rw l
+
+-- ---- a list of swaps from the left: one more swap on the right exchanges two images
+
+getD-padded : (P : Table) (a : ℕ) → a < length P → getD (padded P) a 0 ≡ image P a
+unfolding padded
+getD-padded P a h = List·getD-append P (replicate (32 - length P) 0) 0 a h ∙ getD-default P a 0 a h
+
+exchanged : (n : ℕ) (π : Swaps) (a b : ℕ) → a < n → b < n → set (set (padded (ofSwaps n π)) a (act π b)) b (act π a) ≡ padded (ofSwaps n (π ++ ((a, b) ∷ [])))
+unfolding ofSwaps
+exchanged n π a b h k =
+    ap (λ (l : List ℕ). set l b (act π a)) (store-at n a (act π b) (act π) h)
+    ∙ store-at n b (act π a) (λ c. cond (eqb c a) (act π b) (act π c)) k
+    ∙ ap padded (tabulate-same n (λ c. cond (eqb c b) (act π a) (cond (eqb c a) (act π b) (act π c))) (act (π ++ ((a, b) ∷ []))) λ c m.
+    by-eq c b (λ e. rw (eq-eqb c b e, act-append π ((a, b) ∷ []) c, e, swapped-right)) λ x.
+    by-eq c a (λ e. rw (ne-eqb c b x, eq-eqb c a e, act-append π ((a, b) ∷ []) c, e, swapped-left)) λ y.
+    rw (ne-eqb c b x, ne-eqb c a y, act-append π ((a, b) ∷ []) c, swapped-other a b c y x))
+
+-- The first i bytes are read: the store holds the swaps in them, and the rest are swaps of the n atoms too.
+pub record Passed (n : ℕ) (s : List ℕ) (i : ℕ) (r : List ℕ) : Type 0 where
+  pub done : Swaps
+  pub all : done ++ swapsIn (drop i s) ≡ swapsIn s
+  pub rest : Within n (swapsIn (drop i s))
+  pub held : r ≡ padded (ofSwaps n done)
+
+drop-two : (s : List ℕ) (i : ℕ) → i + 1 < length s → drop i s ≡ getD s i 0 ∷ getD s (i + 1) 0 ∷ drop (i + 2) s
+drop-two s i h =
+    let e : suc i ≡ i + 1 = omega arith in
+    let f : suc (i + 1) ≡ i + 2 = omega arith in
+    drop-cons s i 0 (omega arith)
+    ∙ ap (λ (l : List ℕ). getD s i 0 ∷ l)
+    (ap (λ (j : ℕ). drop j s) e ∙ drop-cons s (i + 1) 0 h ∙ ap (λ (j : ℕ). getD s (i + 1) 0 ∷ drop j s) f)
+
+pub passed-none : (n : ℕ) (s : List ℕ) → Within n (swapsIn s) → Passed n s 0 (padded (identity n))
+passed-none n s w = record { done = []; all = refl; rest = w; held = ap padded (sym (ofSwaps-none n)) }
+
+module _ (n : ℕ) (s : List ℕ) (i : ℕ) (r : List ℕ) (d : Passed n s i r) (h : i + 1 < length s) where
+  passed-rest : Within n (swapsIn (getD s i 0 ∷ getD s (i + 1) 0 ∷ drop (i + 2) s))
+  passed-rest = subst (λ (l : List ℕ). Within n (swapsIn l)) (drop-two s i h) (d .rest)
+
+  pub passed-left : getD s i 0 < n
+  passed-left = passed-rest .0 .0
+
+  pub passed-right : getD s (i + 1) 0 < n
+  passed-right = passed-rest .0 .1
+
+  passed-image : (a : ℕ) → a < n → getD r a 0 ≡ act (d .done) a
+  passed-image a k = rw (d .held) (getD-padded (ofSwaps n (d .done)) a (rw length-ofSwaps k) ∙ image-ofSwaps n (d .done) a k)
+
+  pub passed-more : Passed n s (i + 2) (set (set r (getD s i 0) (getD r (getD s (i + 1) 0) 0)) (getD s (i + 1) 0) (getD r (getD s i 0) 0))
+  passed-more =
+      let a = getD s i 0 in
+      let b = getD s (i + 1) 0 in
+      record {
+        done = d .done ++ ((a, b) ∷ []);
+        all = append-assoc (d .done) ((a, b) ∷ []) (swapsIn (drop (i + 2) s)) ∙ ap (λ (l : List ℕ). d .done ++ swapsIn l) (sym (drop-two s i h)) ∙ d .all;
+        rest = passed-rest .1;
+        held = rw (passed-image a passed-left, passed-image b passed-right, d .held) (exchanged n (d .done) a b passed-left passed-right);
+      }
+
+swapsIn-none : (s : List ℕ) → length s ≤ 1 → swapsIn s ≡ []
+swapsIn-none [] h = refl
+swapsIn-none (a ∷ []) h = refl
+swapsIn-none (a ∷ b ∷ s) h = absurd (omega arith)
+
+pub passed-all : (n : ℕ) (s : List ℕ) (i : ℕ) (r : List ℕ) → Passed n s i r → length s ≤ i + 1 → r ≡ padded (ofSwaps n (swapsIn s))
+passed-all n s i r d h =
+    let e : swapsIn (drop i s) ≡ [] = swapsIn-none (drop i s) (rw length-drop (omega arith)) in
+    d .held ∙ ap (λ (π : Swaps). padded (ofSwaps n π)) (sym (append-nil (d .done)) ∙ ap (λ (π : Swaps). d .done ++ π) (sym e) ∙ d .all)
+
+-- ---- a set of atoms as a number
+
+setOf-append : (l m : List ℕ) → setOf (l ++ m) ≡ setOf l + setOf m
+setOf-append [] m = sym (zero-add (setOf m))
+setOf-append (a ∷ l) m = rw (setOf-append l m) (omega arith)
+
+kept-append : (f : ℕ → Bool) (l m : List ℕ) → kept f (l ++ m) ≡ kept f l ++ kept f m
+kept-append f [] m = refl
+kept-append f (a ∷ l) m = go (kept-append f l m) (f a)
+  where
+    go : kept f (l ++ m) ≡ kept f l ++ kept f m → (c : Bool) → cond c (a ∷ kept f (l ++ m)) (kept f (l ++ m)) ≡ cond c (a ∷ kept f l) (kept f l) ++ kept f m
+    go e true = ap (λ (k : List ℕ). a ∷ k) e
+    go e false = e
+
+-- The atoms below i that f keeps.
+abbrev pub setBelow : (ℕ → Bool) → ℕ → ℕ
+setBelow f i = setOf (kept f (upto i))
+
+pub setBelow-more : (f : ℕ → Bool) (i : ℕ) → setBelow f (i + 1) ≡ setBelow f i + cond (f i) (2 ^ i) 0
+setBelow-more f i =
+    ap (setBelow f) (add-one i)
+    ∙ ap (λ (l : List ℕ). setOf (kept f l)) (from-suc 0 i ∙ ap (λ (a : ℕ). upto i ++ (a ∷ [])) (zero-add i))
+    ∙ ap setOf (kept-append f (upto i) (i ∷ []))
+    ∙ setOf-append (kept f (upto i)) (kept f (i ∷ []))
+    ∙ ap (λ (x : ℕ). setBelow f i + x) (go (f i))
+  where
+    go : (c : Bool) → setOf (cond c (i ∷ []) []) ≡ cond c (2 ^ i) 0
+    go true = add-zero (2 ^ i)
+    go false = refl
+
+pub setBelow-lt : (f : ℕ → Bool) (i : ℕ) → setBelow f i < 2 ^ i
+setBelow-lt f zero = omega arith
+setBelow-lt f (suc i) =
+    let h : setBelow f i < 2 ^ i = setBelow-lt f i in
+    let e : setBelow f (suc i) ≡ setBelow f i + cond (f i) (2 ^ i) 0 = ap (setBelow f) (sym (add-one i)) ∙ setBelow-more f i in
+    let d : 2 ^ suc i ≡ 2 ^ i + 2 ^ i = two-pow-succ i in
+    let g : cond (f i) (2 ^ i) 0 ≤ 2 ^ i = go (f i) in
+    omega arith
+  where
+    go : (c : Bool) → cond c (2 ^ i) 0 ≤ 2 ^ i
+    go true = omega arith
+    go false = omega arith
+
+pub setBelow-disagreement : (n : ℕ) (P Q : Table) → length P ≡ n → setBelow (disagreeAt P Q) n ≡ setOf (disagreement P Q)
+unfolding disagreement
+setBelow-disagreement n P Q l = rw l
+
+module _ (n : ℕ) (p q : Permutation) (i : ℕ) (h : i < n) (k : n ≤ length (p .images)) (l : n ≤ length (q .images)) where
+  pub set-disagreeing : getD (p .images) i 0 ≢ getD (q .images) i 0 → setBelow (disagreeAt (table n p) (table n q)) i + 2 ^ i ≡ setBelow (disagreeAt (table n p) (table n q)) (i + 1)
+  set-disagreeing m =
+      let e : disagreeAt (table n p) (table n q) i ≡ true = rw (image-table n p i h k, image-table n q i h l, ne-eqb (getD (p .images) i 0) (getD (q .images) i 0) m) in
+      sym (setBelow-more (disagreeAt (table n p) (table n q)) i ∙ ap (λ (c : Bool). setBelow (disagreeAt (table n p) (table n q)) i + cond c (2 ^ i) 0) e)
+
+  pub set-agreeing : getD (p .images) i 0 ≡ getD (q .images) i 0 → setBelow (disagreeAt (table n p) (table n q)) i ≡ setBelow (disagreeAt (table n p) (table n q)) (i + 1)
+  set-agreeing m =
+      let e : disagreeAt (table n p) (table n q) i ≡ false = rw (image-table n p i h k, image-table n q i h l, eq-eqb (getD (p .images) i 0) (getD (q .images) i 0) m) in
+      sym (setBelow-more (disagreeAt (table n p) (table n q)) i ∙ ap (λ (c : Bool). setBelow (disagreeAt (table n p) (table n q)) i + cond c (2 ^ i) 0) e ∙ add-zero (setBelow (disagreeAt (table n p) (table n q)) i))

@@ -1,0 +1,25 @@
+-- `image` meets its contract.
+use borrow.Author.Needs.{needs}
+use native.Mathlib.Omega.{arith}
+use mathlib.Core.Path.{_≡_, sym}
+use lib.ListN.{length}
+use Rattle.permutation.proofs.Store.{image-table, image-table-out}
+use Rattle.permutation.proofs.image.Statement.{statement}
+use Rattle.permutation.proofs.image.Tie as tie
+
+cast-i : tie.Need-cast-i
+cast-i c = search needs
+
+element-copy-out-t9 : tie.Need-element-copy-out-t9
+element-copy-out-t9 c = search needs
+
+returns : tie.Need-returns
+returns c =
+    let l : length (c .before .before .before .args .t1 .images) ≡ 32 = search needs in
+    sym (image-table (c .before .before .before .args .n) (c .before .before .before .args .t1) (c .before .before .before .args .a .0) (omega arith) (omega arith))
+
+returns-2 : tie.Need-returns-2
+returns-2 c = sym (image-table-out (c .before .before .args .n) (c .before .before .args .t1) (c .before .before .args .a .0) (omega arith))
+
+pub image-spec : {M : Type 1} → statement M
+image-spec = tie.close (tie.spec cast-i element-copy-out-t9 returns returns-2)
