@@ -5,3 +5,4 @@ pub mod Solutions
 pub mod Steps
 pub mod Replacing
 pub mod Decide
+pub mod Examples
