@@ -6,3 +6,4 @@ pub mod Steps
 pub mod Replacing
 pub mod Decide
 pub mod Examples
+pub mod Adequacy

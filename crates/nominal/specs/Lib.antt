@@ -3,3 +3,4 @@ pub mod Figure2
 pub mod Solutions
 pub mod Form
 pub mod Decide
+pub mod Adequacy
