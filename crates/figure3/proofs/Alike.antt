@@ -1,0 +1,51 @@
+-- The laws of problems and substitutions that are the same but for lists of swaps that send every atom alike.
+use Prim.Native.Nat.{ℕ}
+use mathlib.Core.Path.{_≡_, refl, sym, _∙_, ap}
+use mathlib.Core.List.{List, [], _∷_, _++_, map}
+use Rattle.permutation.specs.Swaps.{Swaps, Alike}
+use Rattle.permutation.proofs.Swaps.{by-eq}
+use Rattle.nominal.specs.Tree.{Tree, variable, permute, Substitution, substitute, replacing}
+use Rattle.nominal.specs.Solutions.{Demand, Equation, Problem}
+use Rattle.nominal.proofs.Replacing.{replacing-same, replacing-other}
+use Rattle.run.proofs.Same.{Same, same-reflexive, same-symmetric, same-transitive, same-permute, same-permuted, same-substitute, same-substitutions}
+use Rattle.figure3.specs.Figure3.{Each, AlikeDemands, AlikeEquations, AlikeProblems, AlikeSubstitutions}
+
+-- ---- trees and substitutions
+
+pub same-of : {s t : Tree} → s ≡ t → Same s t
+same-of {s} {t} p = rw p (same-reflexive t)
+
+pub same-under : (π ρ : Swaps) {s t : Tree} → Alike π ρ → Same s t → Same (permute π s) (permute ρ t)
+same-under π ρ {s} h e = same-transitive (same-permute π ρ h s) (same-permuted ρ e)
+
+pub same-put : (σ τ : Substitution) {s t : Tree} → AlikeSubstitutions σ τ → Same s t → Same (substitute σ s) (substitute τ t)
+same-put σ τ {s} h e = same-transitive (same-substitutions σ τ h s) (same-substitute τ e)
+
+pub same-replacing : (X : ℕ) {t u : Tree} → Same t u → AlikeSubstitutions (replacing X t) (replacing X u)
+same-replacing X {t} {u} e Y =
+    by-eq Y X (λ p. rw (p, replacing-same X t, replacing-same X u) e) λ n.
+    rw (replacing-other X t Y n, replacing-other X u Y n) (same-reflexive (variable Y))
+
+-- ---- lists
+
+pub each-reflexive : {A : Type 0} (R : A → A → Type 0) → ((x : A) → R x x) → (l : List A) → Each R l l
+each-reflexive R h [] = tt
+each-reflexive R h (x ∷ l) = (h x, each-reflexive R h l)
+
+pub each-append : {A : Type 0} (R : A → A → Type 0) (k l m n : List A) → Each R k l → Each R m n → Each R (k ++ m) (l ++ n)
+each-append R [] [] m n a b = b
+each-append R [] (y ∷ l) m n a b = absurd a
+each-append R (x ∷ k) [] m n a b = absurd a
+each-append R (x ∷ k) (y ∷ l) m n a b = (a .0, each-append R k l m n (a .1) b)
+
+pub each-map : {A B : Type 0} (R : B → B → Type 0) (f g : A → B) → ((x : A) → R (f x) (g x)) → (l : List A) → Each R (map f l) (map g l)
+each-map R f g h [] = tt
+each-map R f g h (x ∷ l) = (h x, each-map R f g h l)
+
+-- ---- problems
+
+pub demands-reflexive : (D : List Demand) → Each AlikeDemands D D
+demands-reflexive D = each-reflexive AlikeDemands (λ d. (refl, same-reflexive (d .1))) D
+
+pub equations-reflexive : (E : List Equation) → Each AlikeEquations E E
+equations-reflexive E = each-reflexive AlikeEquations (λ e. (same-reflexive (e .0), same-reflexive (e .1))) E

@@ -1,0 +1,110 @@
+-- 003, figure 3: the labelled transformations of unification problems, with the protected variables of 000. Each constructor is a rule and bears
+-- its name. Definitions alone; that the run is one run of them, and that they come to an end, is in proofs/.
+use Prim.Native.Nat.{ℕ, zero, suc}
+use mathlib.Core.Path.{_≡_}
+use mathlib.Core.Logic.{_≢_, _↔_}
+use mathlib.Core.List.{List, [], _∷_, _++_, map, List·Memᴰ}
+use Rattle.permutation.specs.Swaps.{Swaps, act, inverse, Disagree}
+use Rattle.nominal.specs.Tree.{Tree, unit, atom, abstraction, pair, application, suspension, variable, permute, Occurs, Substitution, substitute, composed, replacing}
+use Rattle.nominal.specs.Solutions.{Facts, Demand, Equation, Problem}
+use Rattle.run.proofs.Same.{Same}
+
+-- 003, definition 3.1: "A unification problem P is a finite set of atomic problems, each of which is either an equational problem t ≈? t' .. or a
+-- freshness problem a #? t". The two kinds stand in a list each (`Problem`). Their order plays no part: the problem taken may stand anywhere, and
+-- what comes of it stands in its place. One that stands there twice is taken twice.
+
+-- "the substitution σ is either the identity ε, or a single replacement [X := t]"
+infix 20 _:=_
+pub data Label : Type 0 where
+  ε : Label
+  _:=_ : ℕ → Tree → Label
+
+abbrev pub substitutionOf : Label → Substitution
+substitutionOf ε = variable
+substitutionOf (X := t) = replacing X t
+
+-- "the notation σP to indicate the problem resulting from applying the substitution σ to all the terms occurring in the problem P"
+abbrev pub putInto : Label → Problem → Problem
+putInto ε P = P
+putInto (X := t) P = record {
+  demands = map (λ d. (d .0, substitute (replacing X t) (d .1))) (P .demands);
+  equations = map (λ e. (substitute (replacing X t) (e .0), substitute (replacing X t) (e .1))) (P .equations);
+}
+
+module _ (isProtected : ℕ → Type 0) where
+  -- The rules of the first phase for t ≈? t′: the label, and the equational and the freshness problems that take its place. 000: "rule (≈?inst)
+  -- checks whether the variable X is a protected variable, before applying the instantiation".
+  pub data Equational : Tree → Tree → Label → List Equation → List Demand → Type 0 where
+    ≈?-unit : Equational unit unit ε [] []
+    ≈?-pair : {t₁ t₂ t₁′ t₂′ : Tree} → Equational (pair t₁ t₂) (pair t₁′ t₂′) ε ((t₁, t₁′) ∷ (t₂, t₂′) ∷ []) []
+    ≈?-function-symbol : {f : ℕ} {t t′ : Tree} → Equational (application f t) (application f t′) ε ((t, t′) ∷ []) []
+    ≈?-abstraction-1 : {a : ℕ} {t t′ : Tree} → Equational (abstraction a t) (abstraction a t′) ε ((t, t′) ∷ []) []
+    ≈?-abstraction-2 : {a a′ : ℕ} {t t′ : Tree} → a ≢ a′ → Equational (abstraction a t) (abstraction a′ t′) ε ((t, permute ((a, a′) ∷ []) t′) ∷ []) ((a, t′) ∷ [])
+    ≈?-atom : {a : ℕ} → Equational (atom a) (atom a) ε [] []
+    ≈?-suspension : {π π′ : Swaps} {X : ℕ} (ds : List ℕ) → ((a : ℕ) → List·Memᴰ a ds ↔ Disagree π π′ a) → Equational (suspension π X) (suspension π′ X) ε [] (map (λ a. (a, variable X)) ds)
+    ≈?-variable-right : {t : Tree} {π : Swaps} {X : ℕ} → (isProtected X → ⊥) → (Occurs X t → ⊥) → Equational t (suspension π X) (X := permute (inverse π) t) [] []
+    ≈?-variable-left : {t : Tree} {π : Swaps} {X : ℕ} → (isProtected X → ⊥) → (Occurs X t → ⊥) → Equational (suspension π X) t (X := permute (inverse π) t) [] []
+
+  -- P =σ⇒ P′.
+  pub data First : Problem → Label → Problem → Type 0 where
+    first : {t t′ : Tree} {σ : Label} {E′ : List Equation} {D′ : List Demand} (E E″ : List Equation) (D : List Demand) → Equational t t′ σ E′ D′
+        → First (record { demands = D; equations = E ++ (t, t′) ∷ E″ }) σ (putInto σ (record { demands = D ++ D′; equations = E ++ (E′ ++ E″) }))
+
+-- The rules of the second phase for a #? t: the label, "either empty ∅, or a singleton {a # X}", and the freshness problems that take its place.
+pub data Freshness : ℕ → Tree → Facts → List Demand → Type 0 where
+  #?-unit : {a : ℕ} → Freshness a unit [] []
+  #?-pair : {a : ℕ} {t₁ t₂ : Tree} → Freshness a (pair t₁ t₂) [] ((a, t₁) ∷ (a, t₂) ∷ [])
+  #?-function-symbol : {a f : ℕ} {t : Tree} → Freshness a (application f t) [] ((a, t) ∷ [])
+  #?-abstraction-1 : {a : ℕ} {t : Tree} → Freshness a (abstraction a t) [] []
+  #?-abstraction-2 : {a a′ : ℕ} {t : Tree} → a ≢ a′ → Freshness a (abstraction a′ t) [] ((a, t) ∷ [])
+  #?-atom : {a a′ : ℕ} → a ≢ a′ → Freshness a (atom a′) [] []
+  #?-suspension : {a : ℕ} {π : Swaps} {X : ℕ} → Freshness a (suspension π X) ((act (inverse π) a, X) ∷ []) []
+
+-- P =∇⇒ P′.
+pub data Second : Problem → Facts → Problem → Type 0 where
+  second : {a : ℕ} {t : Tree} {∇ : Facts} {D′ : List Demand} (D D″ : List Demand) (E : List Equation) → Freshness a t ∇ D′
+      → Second (record { demands = D ++ (a, t) ∷ D″; equations = E }) ∇ (record { demands = D ++ (D′ ++ D″); equations = E })
+
+-- The run keeps tables of images, so its trees agree with the transformations' but for lists of swaps that send every atom alike (`Same`), which
+-- count as one permutation. So for problems, whose members agree one by one, and for substitutions.
+abbrev pub Each : {A : Type 0} → (A → A → Type 0) → List A → List A → Type 0
+Each R [] [] = Unit {0}
+Each R [] (y ∷ m) = ⊥
+Each R (x ∷ l) [] = ⊥
+Each R (x ∷ l) (y ∷ m) = R x y × Each R l m
+
+abbrev pub AlikeDemands : Demand → Demand → Type 0
+AlikeDemands d e = (d .0 ≡ e .0) × Same (d .1) (e .1)
+
+abbrev pub AlikeEquations : Equation → Equation → Type 0
+AlikeEquations e f = Same (e .0) (f .0) × Same (e .1) (f .1)
+
+pub record AlikeProblems (P Q : Problem) : Type 0 where
+  pub demands : Each AlikeDemands (P .demands) (Q .demands)
+  pub equations : Each AlikeEquations (P .equations) (Q .equations)
+
+abbrev pub AlikeSubstitutions : Substitution → Substitution → Type 0
+AlikeSubstitutions σ τ = (X : ℕ) → Same (σ X) (τ X)
+
+-- A sequence of n transformations of the first phase, "P =σ₁⇒ .. =σₙ⇒ P′", with its labels composed, "σₙ ∘ .. ∘ σ₁". Between two of them stand
+-- alike problems.
+pub data FirstPhase (isProtected : ℕ → Type 0) : ℕ → Problem → Substitution → Problem → Type 0 where
+  none : {P Q : Problem} → AlikeProblems P Q → FirstPhase isProtected zero P variable Q
+  then : {n : ℕ} {P Q R S : Problem} {σ : Label} {τ : Substitution} → AlikeProblems P Q → First isProtected Q σ R → FirstPhase isProtected n R τ S
+      → FirstPhase isProtected (suc n) P (composed τ (substitutionOf σ)) S
+
+-- A sequence of transformations of the second phase, "P =∇₁⇒ .. =∇ₘ⇒ P′", with its labels joined, "∇₁ ∪ .. ∪ ∇ₘ".
+pub data SecondPhase : Problem → Facts → Problem → Type 0 where
+  none : {P : Problem} → SecondPhase P [] P
+  then : {P Q R : Problem} {∇ ∇′ : Facts} → Second P ∇ Q → SecondPhase Q ∇′ R → SecondPhase P (∇ ++ ∇′) R
+
+-- "otherwise it halts signalling failure": no rule is for t ≈? t′, and none for a #? t.
+abbrev pub NoEquational : (ℕ → Type 0) → Tree → Tree → Type 0
+NoEquational isProtected t t′ = (σ : Label) (E : List Equation) (D : List Demand) → Equational isProtected t t′ σ E D → ⊥
+
+abbrev pub NoFreshness : ℕ → Tree → Type 0
+NoFreshness a t = (∇ : Facts) (D : List Demand) → Freshness a t ∇ D → ⊥
+
+-- 003, lemma 3.2: "There is no infinite series of unification transitions." From P on, every series of the first phase comes to an end.
+pub data Terminates (isProtected : ℕ → Type 0) : Problem → Type 0 where
+  terminates : {P : Problem} → ((Q R : Problem) (σ : Label) → AlikeProblems P Q → First isProtected Q σ R → Terminates isProtected R) → Terminates isProtected P
