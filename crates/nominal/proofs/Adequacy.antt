@@ -2,11 +2,9 @@
 -- from any environment, so from none.
 use Prim.Native.Nat.{ℕ, zero, suc, _+_, _≤_, _<_}
 use native.Mathlib.Omega.{arith}
-use mathlib.Core.Path.{_≡_, refl, sym, _∙_, ap}
-use mathlib.Core.Logic.{_≢_, _↔_, _⊎_, inl, inr}
-use mathlib.Core.Bool.{cond}
+use mathlib.Core.Path.{_≡_, refl, sym}
+use mathlib.Core.Logic.{_↔_, inl, inr}
 use mathlib.Core.List.{[], _∷_}
-use lib.Dec.{eqb}
 use borrow.Author.Tests.{eq-eqb, ne-eqb}
 use Rattle.permutation.specs.Swaps.{Swaps}
 use Rattle.permutation.proofs.Swaps.{by-eq, swapped-left, swapped-right, swapped-other, swapped-twice, swapped-itself}

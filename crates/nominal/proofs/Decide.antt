@@ -1,19 +1,19 @@
 -- The deciding functions are sound and complete for figure 2's families.
 use Prim.Native.Nat.{ℕ}
-use mathlib.Core.Path.{_≡_, refl, sym, _∙_, ap, subst}
-use mathlib.Core.Logic.{_≢_, _↔_, _⊎_, inl, inr}
+use mathlib.Core.Path.{_≡_, refl, _∙_, ap, subst}
+use mathlib.Core.Logic.{_↔_, _⊎_, inl, inr}
 use mathlib.Core.Bool.{Bool, true, false, cond, not, _&&_, _||_}
 use mathlib.Core.List.{List, [], _∷_, _++_, List·Memᴰ, List·Memᴰ·head, List·Memᴰ·tail}
 use lib.Dec.{T, eqb, eqb→eq, eqb-refl}
 use borrow.Author.Tests.{eq-eqb, ne-eqb}
-use Rattle.permutation.specs.Swaps.{Swaps, act, inverse, atoms, Disagree}
+use Rattle.permutation.specs.Swaps.{Swaps, act, atoms}
 use Rattle.permutation.proofs.Swaps.{by-eq, disagree-among}
 use Rattle.nominal.specs.Tree.{Tree, unit, atom, abstraction, pair, application, suspension, permute}
 use Rattle.nominal.specs.Form.{form, name, swapsAt, first, second}
-use Rattle.nominal.specs.Figure2.{Environment, _⊢_#_, #-unit, #-pair, #-function-symbol, #-abstraction-1, #-abstraction-2, #-atom, #-suspension, _⊢_≈_, ≈-unit, ≈-pair, ≈-function-symbol, ≈-abstraction-1, ≈-abstraction-2, ≈-atom, ≈-suspension}
-use Rattle.nominal.specs.Solutions.{Fact, Facts, given}
+use Rattle.nominal.specs.Figure2.{_⊢_#_, #-unit, #-pair, #-function-symbol, #-abstraction-1, #-abstraction-2, #-atom, #-suspension, _⊢_≈_, ≈-unit, ≈-pair, ≈-function-symbol, ≈-abstraction-1, ≈-abstraction-2, ≈-atom, ≈-suspension}
+use Rattle.nominal.specs.Solutions.{Facts, given}
 use Rattle.nominal.specs.Decide.{Test, tested, isGiven, passAll, isFresh, isEqual}
-use Rattle.nominal.proofs.Figure2.{fresh-atom, fresh-abstraction, fresh-suspension}
+use Rattle.nominal.proofs.Figure2.{fresh-abstraction}
 use Rattle.nominal.proofs.Laws.{fresh-weaken, equal-weaken}
 
 pub and-both : (a b : Bool) → T (a && b) ↔ (T a × T b)

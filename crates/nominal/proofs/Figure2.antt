@@ -6,8 +6,8 @@ use mathlib.Core.Logic.{_≢_, _↔_, _⊎_, inl, inr}
 use mathlib.Core.List.{[], _∷_}
 use Rattle.permutation.specs.Swaps.{Swaps, act, inverse, Disagree}
 use Rattle.permutation.proofs.Swaps.{by-eq}
-use Rattle.nominal.specs.Tree.{Tree, unit, atom, abstraction, pair, application, suspension, permute}
-use Rattle.nominal.specs.Figure2.{Environment, _⊢_#_, #-unit, #-pair, #-function-symbol, #-abstraction-1, #-abstraction-2, #-atom, #-suspension, _⊢_≈_, ≈-unit, ≈-pair, ≈-function-symbol, ≈-abstraction-1, ≈-abstraction-2, ≈-atom, ≈-suspension}
+use Rattle.nominal.specs.Tree.{Tree, atom, abstraction, pair, application, suspension, permute}
+use Rattle.nominal.specs.Figure2.{Environment, _⊢_#_, #-pair, #-function-symbol, #-abstraction-1, #-abstraction-2, #-atom, #-suspension, _⊢_≈_, ≈-pair, ≈-function-symbol, ≈-abstraction-1, ≈-abstraction-2, ≈-atom, ≈-suspension}
 
 module _ {∇ : Environment} where
   pub fresh-atom : {a b : ℕ} → (∇ ⊢ a # atom b) ↔ (a ≢ b)

@@ -1,6 +1,6 @@
 -- 003's lemmas 2.7 to 2.14 about figure 2's two relations, for any number of atoms and any environment. Where 003's order of proof differs
 -- from the one here: the disagreement law is shown first under an equality, so that transitivity needs no induction on size.
-use Prim.Native.Nat.{ℕ, suc, _+_, _≤_, _<_}
+use Prim.Native.Nat.{ℕ, suc, _+_}
 use native.Mathlib.Omega.{arith}
 use mathlib.Core.Path.{_≡_, refl, sym, _∙_, ap}
 use mathlib.Core.Logic.{_≢_, _↔_, _⊎_, inl, inr}

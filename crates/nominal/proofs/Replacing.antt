@@ -1,12 +1,10 @@
 -- One more binding: what [X := t] done after an idempotent substitution that leaves X as it is gives. It is idempotent again, satisfied by
 -- exactly the pairs that satisfied the old one and take X and t for equal, and allowed where X is not protected.
-use Prim.Native.Nat.{ℕ, suc, _+_, _≤_}
+use Prim.Native.Nat.{ℕ, suc, _+_}
 use native.Mathlib.Omega.{arith}
 use mathlib.Core.Path.{_≡_, refl, sym, _∙_, ap}
-use mathlib.Core.Logic.{_≢_, _↔_, _⊎_, inl, inr}
-use mathlib.Core.Bool.{cond}
-use mathlib.Core.List.{[], _∷_, _++_, append-nil, append-cancel-left}
-use lib.Dec.{eqb}
+use mathlib.Core.Logic.{_≢_, _↔_, inl, inr}
+use mathlib.Core.List.{[], _++_, append-nil, append-cancel-left}
 use borrow.Author.Tests.{eq-eqb, ne-eqb}
 use Rattle.permutation.specs.Swaps.{Swaps}
 use Rattle.permutation.proofs.Swaps.{by-eq}

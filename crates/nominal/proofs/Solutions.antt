@@ -1,14 +1,15 @@
 -- Laws of solutions and instances over any allowance: what they do not see (order, repetition, equal substitutions), that instances of a
 -- solution are solutions, and which pairs are the instances of an answer.
-use Prim.Native.Nat.{ℕ, _+_, _≤_}
+use Prim.Native.Nat.{ℕ, _+_}
 use native.Mathlib.Omega.{arith}
-use mathlib.Core.Path.{_≡_, refl, sym, _∙_, ap}
-use mathlib.Core.Logic.{_↔_}
+use mathlib.Core.Path.{_≡_, refl}
+use mathlib.Core.Logic.{_↔_, Iff·trans}
 use mathlib.Core.List.{List, [], _∷_, _++_, List·Memᴰ, List·Memᴰ·head, List·Memᴰ·tail}
 use Rattle.nominal.specs.Tree.{Tree, variable, Substitution, substitute, composed}
 use Rattle.nominal.specs.Figure2.{Environment, _⊢_#_, _⊢_≈_, #-suspension}
-use Rattle.nominal.specs.Solutions.{Every, Fact, Facts, given, Finite, Allowance, Allowed, protecting, Demand, Equation, Problem, Meets, Equates, Solves, Answer, Holds, Instance, EquallyGeneral, Answers, Satisfies, Idempotent, Unbound}
+use Rattle.nominal.specs.Solutions.{Every, Facts, given, Allowed, Allowance, protecting, Demand, Equation, Problem, Meets, Equates, Solves, Answer, Holds, Instance, EquallyGeneral, Answers, Satisfies, Idempotent, Unbound}
 use Rattle.nominal.proofs.Tree.{permute-nil, substitute-variable, substitute-composed}
+use Rattle.nominal.proofs.Figure2.{fresh-suspension}
 use Rattle.nominal.proofs.Laws.{equal-reflexive, equal-symmetric, equal-transitive, equal-fresh, equal-substitutions, fresh-substitute, equal-substitute}
 
 -- `Every` is membership's "for each".
@@ -113,6 +114,36 @@ module _ (A : Allowance) {∇ : Environment} (τ : Substitution) (q : Answer) wh
 
     pub instance-exactly : A .allowsSubstitution τ → Every (Unbound (q .substitution)) (q .facts) → (Satisfies ∇ τ (q .substitution) × Every (Holds ∇ τ) (q .facts)) ↔ Instance A ∇ τ q
     instance-exactly a free = (λ h. instance-of a (h .0) (h .1), λ n. (instance-satisfies n, instance-holds free n))
+
+-- An idempotent answer is the problem's if the problem's allowed solutions are the allowed pairs that satisfy its substitution and derive its
+-- facts.
+pub answers-of : (A : Allowance) (P : Problem) (q : Answer) → Idempotent (q .substitution) → Every (Unbound (q .substitution)) (q .facts)
+    → ((F : Facts) (τ : Substitution) → Allowed A F τ → Solves (given F) τ P ↔ (Satisfies (given F) τ (q .substitution) × Every (Holds (given F) τ) (q .facts))) → Answers A P q
+answers-of A P q once free h F τ a = Iff·trans (h F τ a) (instance-exactly A τ q once (a .1) free)
+
+-- The problem's answer, if it is itself allowed, solves the problem.
+pub answer-solves : (A : Allowance) (P : Problem) (q : Answer) → A .allowsSubstitution variable → Allowed A (q .facts) (q .substitution) → Answers A P q → Solves (given (q .facts)) (q .substitution) P
+answer-solves A P q still a h = h (q .facts) (q .substitution) a .1 (own-instance A still q)
+
+-- Substituting nothing, as the judge does: a solution is that all is derivable as it stands, and a fact holds if it is given.
+module _ (∇ : Environment) where
+  pub solves-variable : (P : Problem) → Solves ∇ variable P ↔ (Every (λ d. ∇ ⊢ d .0 # d .1) (P .demands) × Every (λ e. ∇ ⊢ e .0 ≈ e .1) (P .equations))
+  solves-variable P = (
+    λ h. (
+      every-map (Meets ∇ variable) (λ d. ∇ ⊢ d .0 # d .1) (λ d k. rw substitute-variable at k) (P .demands) (h .0),
+      every-map (Equates ∇ variable) (λ e. ∇ ⊢ e .0 ≈ e .1) (λ e k. simp substitute-variable at k) (P .equations) (h .1),
+    ),
+    λ h. (
+      every-map (λ d. ∇ ⊢ d .0 # d .1) (Meets ∇ variable) (λ d k. rw substitute-variable k) (P .demands) (h .0),
+      every-map (λ e. ∇ ⊢ e .0 ≈ e .1) (Equates ∇ variable) (λ e k. simp substitute-variable k) (P .equations) (h .1),
+    ),
+  )
+
+  pub holds-variable : (F : Facts) → Every (Holds ∇ variable) F ↔ Every (λ f. ∇ (f .0) (f .1)) F
+  holds-variable F = (
+    every-map (Holds ∇ variable) (λ f. ∇ (f .0) (f .1)) (λ f k. fresh-suspension .0 k) F,
+    every-map (λ f. ∇ (f .0) (f .1)) (Holds ∇ variable) (λ f k. #-suspension k) F,
+  )
 
 -- Document 01's allowance: leaving all variables as they are is allowed, and so is one allowed substitution after another.
 module _ (isProtected : ℕ → Type 0) where

@@ -4,7 +4,7 @@ use Prim.Native.Nat.{ℕ}
 use mathlib.Core.Bool.{Bool, true, false, cond, not, _&&_, _||_}
 use mathlib.Core.List.{List, [], _∷_, _++_}
 use lib.Dec.{T, eqb}
-use Rattle.permutation.specs.Swaps.{Swaps, act, inverse, atoms}
+use Rattle.permutation.specs.Swaps.{act, inverse, atoms}
 use Rattle.nominal.specs.Tree.{Tree, unit, atom, abstraction, pair, application, suspension, permute}
 use Rattle.nominal.specs.Form.{form, name, swapsAt, first, second}
 use Rattle.nominal.specs.Figure2.{Environment}
