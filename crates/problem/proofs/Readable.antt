@@ -12,7 +12,7 @@ use lib.Dec.{leb, ltb, eqb}
 use borrow.Author.Tests.{ltb-true, leb-true, eqb-true}
 use Rattle.permutation.specs.Swaps.{Swaps, Within}
 use Rattle.field.specs.Field.{Field, cut, whole, front, bodied, byte, word, long, Bytes}
-use Rattle.field.proofs.Front.{stands, bytes-body}
+use Rattle.field.proofs.Standing.{stands, bytes-body}
 use Rattle.problem.specs.Problem.{Node, unit-form, atom-form, abstraction-form, pair-form, application-form, suspension-form, formAt, Equal, Fresh, Assumed, Problem}
 use Rattle.problem.specs.Reader.{Item, node, equation, freshness, assumption, protection, Reading, read, refused, lengthFits, item, Sizes, sizes, room, there, swapsThere, formThere, add, fault, unless, oneField, fieldsFrom, goodHead, started, headed, headField, readAll, reading}
 use Rattle.problem.specs.Readable.{Named, Readable}
