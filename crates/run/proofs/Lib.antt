@@ -3,3 +3,4 @@ pub mod Limit
 pub mod Same
 pub mod Trees
 pub mod Did
+pub mod Bindings

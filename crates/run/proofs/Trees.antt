@@ -8,9 +8,9 @@ use mathlib.Core.List.{List, [], _∷_, _++_}
 use lib.ListN.{length, getD, length-append, List·getD-append, List·getD-eq-default}
 use Rattle.permutation.specs.Swaps.{Swaps, act, inverse, Alike, Within}
 use Rattle.permutation.specs.Table.{Table, image, identity, after, inverted, ofSwaps, swappedAfter, Permutes, swapsOf}
-use Rattle.permutation.proofs.Swaps.{act-append, within-append}
+use Rattle.permutation.proofs.Swaps.{act-append, within, within-append}
 use Rattle.permutation.proofs.Table.{by-lt, length-identity, length-after, length-inverted, length-swappedAfter, length-ofSwaps, image-after, image-ofSwaps-within, permutes-identity, permutes-ofSwaps, permutes-after, permutes-inverted, permutes-swappedAfter, act-swapsOf, swapsOf-within, swapsOf-after, swapsOf-inverted, swapsOf-swappedAfter, swapsOf-identity}
-use Rattle.nominal.specs.Tree.{Tree, unit, atom, abstraction, pair, application, suspension, variable, permute}
+use Rattle.nominal.specs.Tree.{Tree, unit, atom, abstraction, pair, application, suspension, variable, permute, Substitution, substitute}
 use Rattle.nominal.proofs.Tree.{permute-nil, permute-append}
 use Rattle.problem.specs.Problem.{Form, unit-form, atom-form, abstraction-form, pair-form, application-form, suspension-form, Node, formAt}
 use Rattle.problem.specs.Readable.{Named}
@@ -209,3 +209,51 @@ module _ (g : Ground) (variables : ℕ) (named : (n : ℕ) → Named (g .atoms) 
       by-form (pair-form l r) m = (part l (m .0), part r (m .1))
       by-form (application-form h n) m = part n m
       by-form (suspension-form π X) m = (permuting-after (f .images) (permuting-ofSwaps (g .atoms) π (m .1)), m .0)
+
+-- ---- names
+
+-- All names in a tree are there: so many atoms and variables.
+abbrev pub NamedTree : ℕ → ℕ → Tree → Type 0
+NamedTree atoms variables unit = Unit {0}
+NamedTree atoms variables (atom a) = a < atoms
+NamedTree atoms variables (abstraction a t) = (a < atoms) × NamedTree atoms variables t
+NamedTree atoms variables (pair s t) = NamedTree atoms variables s × NamedTree atoms variables t
+NamedTree atoms variables (application f t) = NamedTree atoms variables t
+NamedTree atoms variables (suspension π X) = (X < variables) × Within atoms π
+
+module _ (atoms variables : ℕ) where
+  pub named-permute : (π : Swaps) → Within atoms π → (t : Tree) → NamedTree atoms variables t → NamedTree atoms variables (permute π t)
+  named-permute π w unit m = tt
+  named-permute π w (atom a) m = within atoms π a w m
+  named-permute π w (abstraction a t) m = (within atoms π a w (m .0), named-permute π w t (m .1))
+  named-permute π w (pair s t) m = (named-permute π w s (m .0), named-permute π w t (m .1))
+  named-permute π w (application f t) m = named-permute π w t m
+  named-permute π w (suspension ρ X) m = (m .0, within-append atoms π ρ w (m .1))
+
+  pub named-substitute : (σ : Substitution) → ((X : ℕ) → X < variables → NamedTree atoms variables (σ X)) → (t : Tree) → NamedTree atoms variables t → NamedTree atoms variables (substitute σ t)
+  named-substitute σ h unit m = tt
+  named-substitute σ h (atom a) m = m
+  named-substitute σ h (abstraction a t) m = (m .0, named-substitute σ h t (m .1))
+  named-substitute σ h (pair s t) m = (named-substitute σ h s (m .0), named-substitute σ h t (m .1))
+  named-substitute σ h (application f t) m = named-substitute σ h t m
+  named-substitute σ h (suspension π X) m = named-permute π (m .1) (σ X) (h X (m .0))
+
+  module _ (nodes : List Node) (named : (n : ℕ) → Named atoms variables n (formAt nodes n)) where
+    named-form : (n : ℕ) → ((i : ℕ) → i < n → NamedTree atoms variables (tree nodes i)) → (f : Node) → Named atoms variables n f → NamedTree atoms variables (built nodes f)
+    named-form n before unit-form m = tt
+    named-form n before (atom-form a) m = m
+    named-form n before (abstraction-form a i) m = (m .0, before i (m .1))
+    named-form n before (pair-form l r) m = (before l (m .0), before r (m .1))
+    named-form n before (application-form f i) m = before i m
+    named-form n before (suspension-form π X) m = m
+
+    named-below : (k n : ℕ) → n < k → NamedTree atoms variables (tree nodes n)
+    named-below zero n h = absurd (omega arith)
+    named-below (suc k) n h = rw (tree-built atoms variables nodes named n) (named-form n (λ i l. named-below k i (omega arith)) (formAt nodes n) (named n))
+
+    pub named-node : (n : ℕ) → NamedTree atoms variables (tree nodes n)
+    named-node n = named-below (suc n) n (omega arith)
+
+    pub named-side : (s : Side) → Permuting atoms (s .images) → NamedTree atoms variables (sideTree nodes s)
+    unfolding sideTree
+    named-side s p = named-permute (swapsOf (s .images)) (within-permuting p) (tree nodes (s .node)) (named-node (s .node))
