@@ -4,3 +4,5 @@ pub mod Same
 pub mod Trees
 pub mod Did
 pub mod Bindings
+pub mod Questions
+pub mod States
