@@ -1,0 +1,62 @@
+-- What document 01 promises of the solver and the judge, said of a problem as it is read: its trees, who solves it, which answer it gets and what
+-- figure 2 derives of it. Definitions alone; that the solver and the judge keep these promises is in proofs/.
+use Prim.Native.Nat.{ℕ, _≤_}
+use mathlib.Core.Path.{_≡_}
+use mathlib.Core.Logic.{_≢_, _↔_}
+use mathlib.Core.List.{List, [], _∷_, _++_, map, List·Memᴰ}
+use Rattle.nominal.specs.Tree.{Substitution}
+use Rattle.nominal.specs.Figure2.{Environment, _⊢_#_, _⊢_≈_}
+use Rattle.nominal.specs.Solutions.{Every, Facts, given, Allowance, Allowed, protecting, Demand, Equation, Solves, Answer, EquallyGeneral, Answers, Problem as TreeProblem}
+use Rattle.problem.specs.Problem.{Problem}
+use Rattle.run.specs.Meaning.{Fact, tree, Binding, meaning}
+use Rattle.run.specs.Answer.{askedFresh, askedAssumed, assumedFacts, Verdict, accepted, refusal, Judgement}
+
+-- A problem's demands (21, 22) and equations, as trees.
+abbrev pub asked : Problem → TreeProblem
+asked p = record {
+  demands = askedFresh (p .nodes) (p .freshness) ++ askedAssumed (p .assumptions);
+  equations = map (λ e. (tree (p .nodes) (e .left), tree (p .nodes) (e .right))) (p .equations);
+}
+
+-- "An allowed pair is a finite set of facts and a substitution that leaves protected variables as they are."
+abbrev pub IsProtected : Problem → ℕ → Type 0
+IsProtected p X = List·Memᴰ X (p .protected)
+
+abbrev pub allowance : Problem → Allowance
+allowance p = protecting (IsProtected p)
+
+-- An answer's facts, and its bindings' meaning.
+abbrev pub answerOf : Problem → List Binding → List Fact → Answer
+answerOf p bs fs = record { facts = fs; substitution = meaning (p .nodes) bs }
+
+-- No allowed pair solves the problem.
+abbrev pub Unsolvable : Problem → Type 0
+Unsolvable p = (F : Facts) (τ : Substitution) → Allowed (allowance p) F τ → Solves (given F) τ (asked p) → ⊥
+
+-- Demand 3, of a verdict: accepted, the allowed solutions are exactly the allowed instances of the answer; refused with 9 to 12, there is none.
+abbrev pub Promised : Problem → Verdict → Type 0
+Promised p (accepted steps bs fs) = Answers (allowance p) (asked p) (answerOf p bs fs)
+Promised p (refusal n o) = 9 ≤ n → n ≤ 12 → Unsolvable p
+
+-- The same demands, in another order or listed twice.
+pub record SameDemands (p q : Problem) : Type 0 where
+  pub demands : (d : Demand) → List·Memᴰ d (asked p .demands) ↔ List·Memᴰ d (asked q .demands)
+  pub equations : (e : Equation) → List·Memᴰ e (asked p .equations) ↔ List·Memᴰ e (asked q .equations)
+  pub protected : (X : ℕ) → IsProtected p X ↔ IsProtected q X
+
+-- Both are accepted, with answers that are equally general, or both refused, unless a limit is reached.
+abbrev pub Agree : Problem → Problem → Verdict → Verdict → Type 0
+Agree p q (accepted k bs fs) (accepted l cs gs) = EquallyGeneral (allowance p) (answerOf p bs fs) (answerOf q cs gs)
+Agree p q (accepted k bs fs) (refusal n o) = n ≡ 8
+Agree p q (refusal n o) (accepted l cs gs) = n ≡ 8
+Agree p q (refusal n o) (refusal m i) = Unit {0}
+
+-- "003's figure 2 derives every equation and every freshness field from the assumptions."
+abbrev pub Derives : Problem → Type 0
+Derives p =
+    Every (λ e. given (assumedFacts (p .assumptions)) ⊢ tree (p .nodes) (e .left) ≈ tree (p .nodes) (e .right)) (p .equations)
+    × Every (λ d. given (assumedFacts (p .assumptions)) ⊢ d .atom # tree (p .nodes) (d .node)) (p .freshness)
+
+-- "0 exactly when" it does, unless 8.
+abbrev pub Judged : Problem → Judgement → Type 0
+Judged p j = j .0 ≢ 8 → (j .0 ≡ 0) ↔ Derives p
