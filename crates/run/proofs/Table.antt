@@ -1,5 +1,5 @@
 -- Every case of document 01's table holds, by computing it: one theorem.
-use mathlib.Core.Path.{_≡_, refl}
+use mathlib.Core.Path.{refl}
 use Rattle.permutation.specs.Swaps.{swapped}
 use Rattle.permutation.specs.Table.{after, inverted, ofSwaps, swappedAfter, disagreement, swapsOf}
 use Rattle.field.specs.Field.{bodied, front, bytes2, bytes4, fieldBytes}

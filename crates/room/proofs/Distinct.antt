@@ -1,0 +1,56 @@
+-- A list of distinct numbers below n has at most n of them.
+use Prim.Native.Nat.{ℕ, zero, suc, _≤_, _<_}
+use native.Mathlib.Omega.{arith}
+use mathlib.Core.Path.{_≡_, refl, sym, _∙_}
+use mathlib.Core.Logic.{_≢_}
+use mathlib.Core.Bool.{cond}
+use mathlib.Core.List.{List, [], _∷_, List·Memᴰ, List·Memᴰ·head, List·Memᴰ·tail}
+use lib.ListN.{length}
+use lib.Dec.{eqb}
+use borrow.Author.Tests.{eq-eqb, ne-eqb}
+use Rattle.permutation.proofs.Swaps.{by-eq}
+
+abbrev pub Distinct : List ℕ → Type 0
+Distinct [] = Unit {0}
+Distinct (i ∷ l) = ((k : ℕ) → List·Memᴰ k l → i ≢ k) × Distinct l
+
+abbrev without : ℕ → List ℕ → List ℕ
+without x [] = []
+without x (i ∷ l) = cond (eqb i x) (without x l) (i ∷ without x l)
+
+member-without : (x : ℕ) (l : List ℕ) (k : ℕ) → List·Memᴰ k (without x l) → List·Memᴰ k l × (k ≢ x)
+member-without x [] k m = absurd (elim m [ ])
+member-without x (i ∷ l) k m =
+    by-eq i x (λ p. let h = member-without x l k (rw (eq-eqb i x p) at m) in (List·Memᴰ·tail (h .0), h .1))
+    (λ n. split n (rw (ne-eqb i x n) at m) (λ j. member-without x l k j))
+  where
+    split : i ≢ x → List·Memᴰ k (i ∷ without x l) → (List·Memᴰ k (without x l) → List·Memᴰ k l × (k ≢ x)) → List·Memᴰ k (i ∷ l) × (k ≢ x)
+    split n (List·Memᴰ·head e) later = (List·Memᴰ·head e, λ p. n (sym e ∙ p))
+    split n (List·Memᴰ·tail j) later = (List·Memᴰ·tail (later j .0), later j .1)
+
+distinct-without : (x : ℕ) (l : List ℕ) → Distinct l → Distinct (without x l)
+distinct-without x [] d = tt
+distinct-without x (i ∷ l) d =
+    by-eq i x (λ p. rw (eq-eqb i x p) (distinct-without x l (d .1))) λ n.
+    rw (ne-eqb i x n) (λ k m. d .0 k (member-without x l k m .0), distinct-without x l (d .1))
+
+without-absent : (x : ℕ) (l : List ℕ) → ((k : ℕ) → List·Memᴰ k l → x ≢ k) → without x l ≡ l
+without-absent x [] h = refl
+without-absent x (i ∷ l) h = rw (ne-eqb i x (λ p. h i (List·Memᴰ·head refl) (sym p)), without-absent x l (λ k m. h k (List·Memᴰ·tail m)))
+
+length-without : (x : ℕ) (l : List ℕ) → Distinct l → length l ≤ suc (length (without x l))
+length-without x [] d = omega arith
+length-without x (i ∷ l) d =
+    by-eq i x (λ p. rw (eq-eqb i x p, without-absent x l (λ k m q. d .0 k m (p ∙ q))) (omega arith)) λ n.
+    rw (ne-eqb i x n) (omega (arith, length-without x l (d .1)))
+
+pub distinct-few : (n : ℕ) (l : List ℕ) → Distinct l → ((k : ℕ) → List·Memᴰ k l → k < n) → length l ≤ n
+distinct-few zero [] d h = omega arith
+distinct-few zero (i ∷ l) d h = absurd (omega (arith, h i (List·Memᴰ·head refl)))
+distinct-few (suc n) [] d h = omega arith
+distinct-few (suc n) (i ∷ l) d h =
+    omega (
+      arith,
+      length-without n (i ∷ l) d,
+      distinct-few n (without n (i ∷ l)) (distinct-without n (i ∷ l) d) (λ k m. let (j, q) = member-without n (i ∷ l) k m in let b = h k j in omega arith),
+    )
