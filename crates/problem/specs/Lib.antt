@@ -1,3 +1,4 @@
 pub mod Problem
 pub mod Reader
 pub mod Readable
+pub mod Held

@@ -1,0 +1,37 @@
+-- How a problem that was read is held by the code: the input itself, lent tables of the offsets at which the fields stand, and sets. One named relation, which
+-- the reader establishes and every look-up leans on. Definitions alone.
+use Prim.Native.Nat.{ℕ, _<_}
+use mathlib.Core.Path.{_≡_}
+use mathlib.Core.Bool.{Bool, true, false, _&&_, _||_}
+use mathlib.Core.List.{List, [], _∷_}
+use lib.ListN.{length, getD, drop}
+use lib.Dec.{eqb}
+use Rattle.sets.specs.Bits.{member, among}
+use Rattle.field.specs.Field.{front, whole}
+use Rattle.problem.specs.Problem.{formAt, Equal, Fresh, Assumed, Problem}
+use Rattle.problem.specs.Reader.{Item, node, equation, freshness, baseTags, lengthFits, item}
+
+-- At offset o of the input stands a whole field, of a known tag and a fitting length, that says the item.
+pub record Stands (s : List ℕ) (o : ℕ) (i : Item) : Type 0 where
+  pub tag : ℕ
+  pub body : List ℕ
+  pub rest : List ℕ
+  pub stands : front (drop o s) ≡ whole tag body rest
+  pub known : baseTags tag ≡ true
+  pub fits : lengthFits tag (length body) ≡ true
+  pub says : item tag body ≡ i
+
+-- Whether an atom is assumed fresh for a variable.
+abbrev pub assumes : List Assumed → ℕ → ℕ → Bool
+assumes [] a X = false
+assumes (d ∷ ds) a X = (eqb (d .atom) a && eqb (d .variable) X) || assumes ds a X
+
+-- The offsets of nodes, equations and freshness fields in their order; for each variable the set of atoms assumed fresh for it; the set of protected
+-- variables.
+pub record Held (s places equationPlaces freshPlaces assumed : List ℕ) (protected : ℕ) (p : Problem) : Type 0 where
+  pub nodes : (n : ℕ) → n < length (p .nodes) → Stands s (getD places n 0) (node (formAt (p .nodes) n))
+  pub equations : (k : ℕ) (e : Equal) → k < length (p .equations) → Stands s (getD equationPlaces k 0) (equation (getD (p .equations) k e))
+  pub freshness : (k : ℕ) (d : Fresh) → k < length (p .freshness)
+      → Stands s (getD freshPlaces k 0) (freshness (getD (p .freshness) k d .atom) (getD (p .freshness) k d .node))
+  pub assumptions : (a X : ℕ) → X < p .variables → member (getD assumed X 0) a ≡ assumes (p .assumptions) a X
+  pub protection : (X : ℕ) → member protected X ≡ among X (p .protected)
