@@ -6,14 +6,14 @@ use native.Mathlib.Omega.{arith}
 use native.Mathlib.Decide.{decLe, ℕ-discrete}
 use mathlib.Core.Path.{_≡_, refl, sym, _∙_, ap, ap₂}
 use mathlib.Core.Logic.{_≢_, _⊎_, inl, inr}
-use mathlib.Core.Bool.{Bool, true, false, cond, not, _&&_, _||_}
+use mathlib.Core.Bool.{Bool, true, false, not, _&&_, _||_}
 use mathlib.Core.List.{List, [], _∷_, _++_, List·Memᴰ, List·Memᴰ·head, List·Memᴰ·tail, List·Memᴰ·not-nil}
 use lib.ListN.{length}
 use lib.Pow.{pow-pos, pow-lt, pow-mono, shl-exact}
-use lib.Bits.{bitAnd, bitOr, and-step, or-step, and-shr, or-shr, and-le-l, or-lt, and-zero-r, and-self, and-mask, or-comm, or-shifted}
-use lib.Count.{ones, trailingZeros, under, ones-step, ones-le, trailing-of-zero, trailing-le}
+use lib.Bits.{bitAnd, bitOr, and-step, or-step, and-shr, or-shr, and-le-l, or-lt, and-self, and-mask, or-comm, or-shifted}
+use lib.Count.{ones, trailingZeros, ones-step, ones-le, trailing-of-zero, trailing-le}
 use lib.Dec.{eqb, ltb}
-use borrow.Author.Tests.{eq-eqb, ne-eqb, eqb-true, eqb-false, lt-ltb, le-ltb, ltb-true, ltb-false}
+use borrow.Author.Tests.{eq-eqb, ne-eqb, eqb-true, eqb-false, lt-ltb, le-ltb}
 use Rattle.sets.specs.Bits.{bit, member, union, intersection, difference, inserted, removed, allBelow, lowest, count, membersFrom, members, setOf, ofList, among}
 
 -- Split on whether a number is below another, and on whether two numbers are equal.
@@ -157,12 +157,43 @@ pub member-within : (k w i : ℕ) → w < 2 ^ k → member w i ≡ true → i < 
 member-within k w i h m =
     by-lt i k (λ l. l) (λ l. let z : bit w i ≡ 0 = bit-past k w i h l in let o : bit w i ≡ 1 = member-bit w i m in absurd (omega arith))
 
+or-false : (b : Bool) → (b || false) ≡ b
+or-false true = refl
+or-false false = refl
+
+or-swap : (a b c : Bool) → (a || (b || c)) ≡ (b || (a || c))
+or-swap true true c = refl
+or-swap true false c = refl
+or-swap false true c = refl
+or-swap false false c = refl
+
+or-true : (b : Bool) → (b || true) ≡ true
+or-true true = refl
+or-true false = refl
+
+and-true : (b : Bool) → (b && true) ≡ b
+and-true true = refl
+and-true false = refl
+
+and-false : (b : Bool) → (b && false) ≡ false
+and-false true = refl
+and-false false = refl
+
 pub member-union : (v w i : ℕ) → member (union v w) i ≡ (member v i || member w i)
 unfolding union
 member-union v w i =
     by-member v i
     (λ p. rw p (bit-member (bitOr v w) i (bit-or v w i ∙ omega (arith, member-bit v i p, bit-lt w i))))
     (λ p. rw p (same-member (bitOr v w) w i i (bit-or v w i ∙ omega (arith, no-member-bit v i p))))
+
+pub member-union-left : (v w i : ℕ) → member v i ≡ true → member (union v w) i ≡ true
+member-union-left v w i m = member-union v w i ∙ rw m
+
+pub member-union-right : (v w i : ℕ) → member w i ≡ true → member (union v w) i ≡ true
+member-union-right v w i m = member-union v w i ∙ rw m (or-true (member v i))
+
+pub member-union-cases : (v w i : ℕ) → member (union v w) i ≡ true → (member v i ≡ true) ⊎ (member w i ≡ true)
+member-union-cases v w i m = by-member v i inl (λ p. inr (sym (member-union v w i ∙ rw p) ∙ m))
 
 pub member-intersection : (v w i : ℕ) → member (intersection v w) i ≡ (member v i && member w i)
 unfolding intersection
@@ -186,28 +217,6 @@ member-power j i =
     by-eq i j
     (λ p. rw (eq-eqb i j p) (bit-member (2 ^ j) i (ap (bit (2 ^ j)) p ∙ bit-power j)))
     (λ n. rw (ne-eqb i j n) (bit-no-member (2 ^ j) i (bit-power-other j i n)))
-
-or-false : (b : Bool) → (b || false) ≡ b
-or-false true = refl
-or-false false = refl
-
-or-swap : (a b c : Bool) → (a || (b || c)) ≡ (b || (a || c))
-or-swap true true c = refl
-or-swap true false c = refl
-or-swap false true c = refl
-or-swap false false c = refl
-
-or-true : (b : Bool) → (b || true) ≡ true
-or-true true = refl
-or-true false = refl
-
-and-true : (b : Bool) → (b && true) ≡ b
-and-true true = refl
-and-true false = refl
-
-and-false : (b : Bool) → (b && false) ≡ false
-and-false true = refl
-and-false false = refl
 
 pub inserted-within : (k w i : ℕ) → i < k → inserted k w i ≡ union w (2 ^ i)
 unfolding inserted
@@ -293,7 +302,16 @@ no-members-empty k w h e = sets-extensional k w 0 h (pow-pos k) (λ i m. e i m �
 
 pub member-not-empty : (w i : ℕ) → member w i ≡ true → 0 < w
 member-not-empty w i m =
-    by-eq w 0 (λ p. let z : bit w i ≡ 0 = ap (λ (x : ℕ). bit x i) p ∙ bit-of-zero i in let o : bit w i ≡ 1 = member-bit w i m in absurd (omega arith)) (λ n. omega arith)
+    by-eq w 0
+    (λ p. let z : bit w i ≡ 0 = ap (λ (x : ℕ). bit x i) p ∙ bit-of-zero i in absurd (omega (arith, member-bit w i m)))
+    (λ n. omega arith)
+
+-- what `is_empty` tells
+pub not-empty : (w : ℕ) → eqb w 0 ≡ false → 0 < w
+not-empty w e = let n : w ≢ 0 = eqb-false w 0 e in omega arith
+
+pub empty-no-member : (w i : ℕ) → eqb w 0 ≡ true → member w i ≡ false
+empty-no-member w i e = ap (λ (x : ℕ). member x i) (eqb-true w 0 e) ∙ member-empty i
 
 -- ---- disjoint sets, and a set within another
 
@@ -505,7 +523,8 @@ membersFrom-same i zero v w e = refl
 membersFrom-same i (suc n) v w e =
     rw (e i (omega arith) (omega arith), membersFrom-same (suc i) n v w (λ j l h. e j (omega arith) (omega arith)))
 
-membersFrom-first : (i n w m : ℕ) → i ≤ m → m < i + n → member w m ≡ true → ((j : ℕ) → j < m → member w j ≡ false) → membersFrom i n w ≡ m ∷ membersFrom i n (removed w m)
+membersFrom-first : (i n w m : ℕ) → i ≤ m → m < i + n → member w m ≡ true → ((j : ℕ) → j < m → member w j ≡ false)
+    → membersFrom i n w ≡ m ∷ membersFrom i n (removed w m)
 membersFrom-first i zero w m l h e f = absurd (omega arith)
 membersFrom-first i (suc n) w m l h e f =
     by-eq i m
@@ -594,7 +613,9 @@ setOf-lt f (suc k) =
 power-added : (k w : ℕ) → w < 2 ^ k → 2 ^ k + w ≡ inserted (suc k) w k
 unfolding union
 power-added k w h =
-    sym (inserted-within (suc k) w k (omega arith) ∙ or-comm w (2 ^ k) ∙ ap (λ (x : ℕ). bitOr x w) (sym (one-mul (2 ^ k))) ∙ or-shifted 1 k w h ∙ ap (λ (x : ℕ). x + w) (one-mul (2 ^ k)))
+    sym
+    (inserted-within (suc k) w k (omega arith) ∙ or-comm w (2 ^ k) ∙ ap (λ (x : ℕ). bitOr x w) (sym (one-mul (2 ^ k)))
+    ∙ or-shifted 1 k w h ∙ ap (λ (x : ℕ). x + w) (one-mul (2 ^ k)))
 
 pub member-setOf : (f : ℕ → Bool) (k i : ℕ) → i < k → member (setOf f k) i ≡ f i
 member-setOf f zero i h = absurd (omega arith)
@@ -648,3 +669,13 @@ inserted-commutes k w i j h =
 pub ofList-append : (k : ℕ) (l : List ℕ) (i : ℕ) → ofList k (l ++ (i ∷ [])) ≡ inserted k (ofList k l) i
 ofList-append k [] i = refl
 ofList-append k (j ∷ l) i = ap (λ (x : ℕ). inserted k x j) (ofList-append k l i) ∙ inserted-commutes k (ofList k l) i j (ofList-lt k l)
+
+pub among-in : (i : ℕ) (l : List ℕ) → among i l ≡ true → List·Memᴰ i l
+among-in i [] e = let z : _≡_ {A = ℕ} 0 1 = cc in absurd (omega arith)
+among-in i (j ∷ l) e =
+    by-eq i j List·Memᴰ·head (λ d. List·Memᴰ·tail (among-in i l (rw (ne-eqb i j d) at e)))
+
+pub in-among : (i : ℕ) (l : List ℕ) → List·Memᴰ i l → among i l ≡ true
+in-among i [] x = absurd (List·Memᴰ·not-nil x)
+in-among i (j ∷ l) x =
+    in-cons j i l (λ p. rw (eq-eqb i j p)) (λ y. rw (in-among i l y) (or-true (eqb i j))) x

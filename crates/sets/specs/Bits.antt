@@ -1,7 +1,7 @@
 -- Sets of small numbers as the bits of a word, of any width: number i is in the set if bit i is set. Atoms (at most 32) and variables (at most 64)
 -- are both kept so. Definitions alone; their laws are in proofs/.
 use Prim.Native.Nat.{ℕ, zero, suc, _+_, _-_, _/_, _%_, _^_, min}
-use mathlib.Core.Bool.{Bool, true, false, cond, _||_}
+use mathlib.Core.Bool.{Bool, false, cond, _||_}
 use mathlib.Core.List.{List, [], _∷_}
 use lib.Bits.{bitAnd, bitOr}
 use lib.Count.{ones, trailingZeros}

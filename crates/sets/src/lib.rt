@@ -33,8 +33,11 @@ impl AtomSet {
     pub fn has(self, a: Atom) -> bool
         ensures { λ r. ⌜ r ≡ member (self .0) (a .0) ⌝ }
     {
-        let w = self.0;
-        if a.0 < 32 { (w >> a.0) & 1 == 1 } else { false }
+        if a.0 < 32 {
+            (self.0 >> a.0) & 1 == 1
+        } else {
+            false
+        }
     }
 
     pub fn with(self, a: Atom) -> AtomSet
@@ -50,9 +53,8 @@ impl AtomSet {
     pub fn without(self, a: Atom) -> AtomSet
         ensures { λ r. ⌜ r .0 ≡ removed (self .0) (a .0) ⌝ }
     {
-        let w = self.0;
         if a.0 < 32 {
-            AtomSet(w & !(1u32 << a.0))
+            AtomSet(self.0 & !(1u32 << a.0))
         } else {
             self
         }
@@ -120,8 +122,11 @@ impl VariableSet {
     pub fn has(self, x: Variable) -> bool
         ensures { λ r. ⌜ r ≡ member (self .0) (x .0) ⌝ }
     {
-        let w = self.0;
-        if x.0 < 64 { (w >> x.0) & 1 == 1 } else { false }
+        if x.0 < 64 {
+            (self.0 >> x.0) & 1 == 1
+        } else {
+            false
+        }
     }
 
     pub fn with(self, x: Variable) -> VariableSet
@@ -137,9 +142,8 @@ impl VariableSet {
     pub fn without(self, x: Variable) -> VariableSet
         ensures { λ r. ⌜ r .0 ≡ removed (self .0) (x .0) ⌝ }
     {
-        let w = self.0;
         if x.0 < 64 {
-            VariableSet(w & !(1u64 << x.0))
+            VariableSet(self.0 & !(1u64 << x.0))
         } else {
             self
         }

@@ -6,18 +6,18 @@ use Rattle.sets.proofs.Bits.{and-not-shift, removed-past}
 use Rattle.sets.proofs.AtomSet.without.Statement.{statement}
 use Rattle.sets.proofs.AtomSet.without.Tie as tie
 
-cast-t6 : tie.Need-cast-t6
-cast-t6 c = search needs
+cast-t5 : tie.Need-cast-t5
+cast-t5 c = search needs
 
-shl-t7 : tie.Need-shl-t7
-shl-t7 c = search needs
+shl-t6 : tie.Need-shl-t6
+shl-t6 c = search needs
 
 returns : tie.Need-returns
 returns c =
-    and-not-shift 32 (c .before .before .before .args .self .0) (c .before .before .before .args .a .0) (omega arith) (omega arith)
+    and-not-shift 32 (c .before .before .before .before .args .self .0) (c .before .before .before .before .args .a .0) (omega arith) (omega arith)
 
 returns-2 : tie.Need-returns-2
 returns-2 c = sym (removed-past 32 (c .before .before .args .self .0) (c .before .before .args .a .0) (omega arith) (omega arith))
 
 pub without-spec : {M : Type 1} → statement M
-without-spec = tie.close (tie.spec cast-t6 shl-t7 returns returns-2)
+without-spec = tie.close (tie.spec cast-t5 shl-t6 returns returns-2)
