@@ -6,3 +6,4 @@ pub mod Did
 pub mod Bindings
 pub mod Questions
 pub mod States
+pub mod Facts

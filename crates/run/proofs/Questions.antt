@@ -99,7 +99,7 @@ wherever-both R none d h k = tt
 wherever-both R (some c) none h k = tt
 wherever-both R (some c) (some d) h k = every-append R c d .1 (h, k)
 
-wherever-map : (R S : Fact → Type 0) → ((f : Fact) → R f → S f) → (c : Option (List Fact)) → Wherever R c → Wherever S c
+pub wherever-map : (R S : Fact → Type 0) → ((f : Fact) → R f → S f) → (c : Option (List Fact)) → Wherever R c → Wherever S c
 wherever-map R S h none k = tt
 wherever-map R S h (some fs) k = every-map R S h fs k
 
