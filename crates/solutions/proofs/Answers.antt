@@ -137,28 +137,35 @@ solves-exactly p bs ds ∇ τ x = (
     all : Every (Meets ∇ τ) (askedAll p ds) ↔ (Every (Meets ∇ τ) (asked p .demands) × Every (Meets ∇ τ) (askedRaised (p .nodes) ds))
     all = every-append (Meets ∇ τ) (asked p .demands) (askedRaised (p .nodes) ds)
 
--- ---- the solver
+-- ---- all through a run
 
--- What holds at the end of a solver's run: a state, and no protected variable is bound.
-abbrev pub Kept : (p : Problem) → Readable p → List Equation → List Binding → List Demand → Type 1
-Kept p r es bs ds = State (groundOf p) (p .variables) (r .named-nodes) es bs ds × ((X : ℕ) → among X (p .protected) ≡ true → valueOf bs X ≡ none)
+-- What holds at the end of a run, whichever variables are protected: a state, and none of those is bound.
+abbrev pub Kept : (p : Problem) → Readable p → (ℕ → Bool) → List Equation → List Binding → List Demand → Type 1
+Kept p r isProtected es bs ds = State (groundWith p isProtected) (p .variables) (r .named-nodes) es bs ds × ((X : ℕ) → isProtected X ≡ true → valueOf bs X ≡ none)
 
-pub run-kept : (p : Problem) (r : Readable p) → AtEnd (Kept p r) (runOf p)
-unfolding runOf
-run-kept p r =
-    run-end (groundOf p) (Kept p r) once (p .limit) (equationsFrom (p .atoms) 0 (p .equations)) [] [] (start p r (λ X. among X (p .protected)), λ X e. refl)
+pub run-kept : (p : Problem) (r : Readable p) (isProtected : ℕ → Bool) → AtEnd (Kept p r isProtected) (run (groundWith p isProtected) (p .limit) (equationsFrom (p .atoms) 0 (p .equations)) [] [])
+run-kept p r isProtected =
+    run-end (groundWith p isProtected) (Kept p r isProtected) once (p .limit) (equationsFrom (p .atoms) 0 (p .equations)) [] [] (start p r isProtected, λ X e. refl)
   where
     once : (e : Equation) (es : List Equation) (bs : List Binding) (ds : List Demand) (qs : List (Side × Side)) (b : List (ℕ × Side)) (d : List (ℕ × Subject))
-        → Kept p r (e ∷ es) bs ds → step (groundOf p) bs (e .left) (e .right) ≡ goes-on qs b d → Kept p r (pending (e .number) qs ++ es) (bs ++ bindings (e .number) b) (ds ++ demands (e .number) d)
+        → Kept p r isProtected (e ∷ es) bs ds → step (groundWith p isProtected) bs (e .left) (e .right) ≡ goes-on qs b d
+        → Kept p r isProtected (pending (e .number) qs ++ es) (bs ++ bindings (e .number) b) (ds ++ demands (e .number) d)
     once e es bs ds qs b d s q =
-        let k : Keeps (groundOf p) (p .variables) (r .named-nodes) bs (goes-on qs b d) =
-        rw q at (step-keeps (groundOf p) (p .variables) (r .named-nodes) (s .0 .meant) (e .left) (e .right) (s .0 .waiting .0 .0) (s .0 .waiting .0 .1)) in (
-          state-next (groundOf p) (p .variables) (r .named-nodes) e es bs ds qs b d (s .0) q,
-          λ X y. unbound-next (groundOf p) (p .variables) (r .named-nodes) (e .number) bs b (k .1) X y (s .1 X y),
+        let g : Ground = groundWith p isProtected in
+        let k : Keeps g (p .variables) (r .named-nodes) bs (goes-on qs b d) =
+        rw q at (step-keeps g (p .variables) (r .named-nodes) (s .0 .meant) (e .left) (e .right) (s .0 .waiting .0 .0) (s .0 .waiting .0 .1)) in (
+          state-next g (p .variables) (r .named-nodes) e es bs ds qs b d (s .0) q,
+          λ X y. unbound-next g (p .variables) (r .named-nodes) (e .number) bs b (k .1) X y (s .1 X y),
         )
 
+-- ---- the solver
+
+-- Which variables a problem protects, as its run asks it.
+abbrev pub listed : Problem → ℕ → Bool
+listed p X = among X (p .protected)
+
 -- The bindings' meaning is itself allowed.
-module _ (p : Problem) (r : Readable p) {es : List Equation} {bs : List Binding} {ds : List Demand} (s : Kept p r es bs ds) where
+module _ (p : Problem) (r : Readable p) {es : List Equation} {bs : List Binding} {ds : List Demand} (s : Kept p r (listed p) es bs ds) where
   pub meaning-allowed : allowance p .allowsSubstitution (meaning (p .nodes) bs)
   meaning-allowed = (
     (p .variables, λ X h. s .0 .meant .free X (by-value (valueOf bs X) (λ e. e) (λ v e. absurd (let k = s .0 .meant .few X v e in omega arith)))),
@@ -184,7 +191,7 @@ module _ (p : Problem) (r : Readable p) (A : Allowance) (leaves : (τ : Substitu
       let y = x (given F) τ (a .1) in
       (λ s. let j = y .0 s in i .0 (j .0, e .0 (j .1)), λ j. let h = i .1 j in y .1 (h .0, e .1 (h .1)))
 
-  verdict-promised : (x : End) → Right (groundOf p) (p .variables) (r .named-nodes) Allows (λ ∇ τ. Satisfied (p .nodes) ∇ τ (equationsFrom (p .atoms) 0 (p .equations)) [] []) x → AtEnd (Kept p r) x
+  verdict-promised : (x : End) → Right (groundOf p) (p .variables) (r .named-nodes) Allows (λ ∇ τ. Satisfied (p .nodes) ∇ τ (equationsFrom (p .atoms) 0 (p .equations)) [] []) x → AtEnd (Kept p r (listed p)) x
       → PromisedOver A p (verdictOf p x)
   unfolding verdictOf
   verdict-promised (limit n) y s = λ h k. absurd (omega arith)
@@ -193,16 +200,16 @@ module _ (p : Problem) (r : Readable p) (A : Allowance) (leaves : (τ : Substitu
       let m = s .0 .meant in
       concluded-promised k bs (meant-idempotent m) (resolvedAll (meaning (p .nodes) bs) (askedAll p ds))
       (λ ∇ τ a. solves-exactly p bs ds ∇ τ (y ∇ τ a))
-      (facts-named p (λ X. among X (p .protected)) m (askedAll p ds) (asks-named p r (λ X. among X (p .protected)) ds (s .0 .raised)))
-      (facts-unbound p (λ X. among X (p .protected)) m (askedAll p ds))
+      (facts-named p (listed p) m (askedAll p ds) (asks-named p r (listed p) ds (s .0 .raised)))
+      (facts-unbound p (listed p) m (askedAll p ds))
 
   pub promised-over : PromisedOver A p (verdictOf p (runOf p))
   unfolding runOf
   promised-over =
       verdict-promised (run (groundOf p) (p .limit) (equationsFrom (p .atoms) 0 (p .equations)) [] [])
-      (run-right (groundOf p) (p .variables) (r .named-nodes) Allows (p .limit) (equationsFrom (p .atoms) 0 (p .equations)) [] [] (start p r (λ X. among X (p .protected)))
+      (run-right (groundOf p) (p .variables) (r .named-nodes) Allows (p .limit) (equationsFrom (p .atoms) 0 (p .equations)) [] [] (start p r (listed p))
       (λ ∇ τ a X y e. leaves τ a X (among-true X (p .protected) .0 y)))
-      (run-kept p r)
+      (run-kept p r (listed p))
 
 -- Demand 3.
 pub promised : (p : Problem) → Readable p → Promised p (verdictOf p (runOf p))

@@ -6,10 +6,11 @@ use mathlib.Core.Logic.{_≢_, _↔_}
 use mathlib.Core.List.{List, [], _∷_, _++_, map, List·Memᴰ}
 use Rattle.nominal.specs.Tree.{Substitution}
 use Rattle.nominal.specs.Figure2.{Environment, _⊢_#_, _⊢_≈_}
-use Rattle.nominal.specs.Solutions.{Every, Facts, given, Allowance, Allowed, protecting, Demand, Equation, Solves, Answer, EquallyGeneral, Answers, Problem as TreeProblem}
+use Rattle.nominal.specs.Solutions.{Every, Facts, given, Allowance, Allowed, protecting, Demand, Equation, Solves, Answer, EquallyGeneral, Answers, Idempotent, Unbound, Problem as TreeProblem}
 use Rattle.problem.specs.Problem.{Problem}
 use Rattle.run.specs.Meaning.{Fact, tree, Binding, meaning}
-use Rattle.run.specs.Answer.{askedFresh, askedAssumed, assumedFacts, Verdict, accepted, refusal, Judgement}
+use Rattle.problem.specs.Reader.{read, reading, baseTags}
+use Rattle.run.specs.Answer.{askedFresh, askedAssumed, assumedFacts, answerBytes, Verdict, accepted, refusal, Result, written, Judgement}
 
 -- A problem's demands (21, 22) and equations, as trees.
 abbrev pub asked : Problem → TreeProblem
@@ -38,6 +39,14 @@ abbrev pub Promised : Problem → Verdict → Type 0
 Promised p (accepted steps bs fs) = Answers (allowance p) (asked p) (answerOf p bs fs)
 Promised p (refusal n o) = 9 ≤ n → n ≤ 12 → Unsolvable p
 
+-- An accepted answer by itself: it solves its problem, it is allowed, and its substitution done twice is itself; each of its facts is about an
+-- unbound variable.
+pub record Proper (p : Problem) (bs : List Binding) (fs : List Fact) : Type 0 where
+  pub solves : Solves (given fs) (meaning (p .nodes) bs) (asked p)
+  pub allowed : Allowed (allowance p) fs (meaning (p .nodes) bs)
+  pub twice : Idempotent (meaning (p .nodes) bs)
+  pub unbound : Every (Unbound (meaning (p .nodes) bs)) fs
+
 -- The same demands, in another order or listed twice.
 pub record SameDemands (p q : Problem) : Type 0 where
   pub demands : (d : Demand) → List·Memᴰ d (asked p .demands) ↔ List·Memᴰ d (asked q .demands)
@@ -56,6 +65,24 @@ abbrev pub Derives : Problem → Type 0
 Derives p =
     Every (λ e. given (assumedFacts (p .assumptions)) ⊢ tree (p .nodes) (e .left) ≈ tree (p .nodes) (e .right)) (p .equations)
     × Every (λ d. given (assumedFacts (p .assumptions)) ⊢ d .atom # tree (p .nodes) (d .node)) (p .freshness)
+
+-- The solver, from bytes to its result. An acceptance, with room for the answer or without it: a problem was read, and the answer whose bytes are
+-- written is the one that it is to get.
+pub record Accepts (input output : List ℕ) (r : Result) : Type 0 where
+  pub problem : Problem
+  pub steps : ℕ
+  pub bindings : List Binding
+  pub facts : List Fact
+  pub reads : reading baseTags input ≡ read problem
+  pub writes : r ≡ written (answerBytes steps bindings facts) output
+  pub answers : Answers (allowance problem) (asked problem) (answerOf problem bindings facts)
+  pub proper : Proper problem bindings facts
+
+-- A refusal with 9 to 12: a problem was read, and no allowed pair solves it.
+pub record Refuses (input : List ℕ) : Type 0 where
+  pub problem : Problem
+  pub reads : reading baseTags input ≡ read problem
+  pub unsolvable : Unsolvable problem
 
 -- "0 exactly when" it does, unless 8.
 abbrev pub Judged : Problem → Judgement → Type 0
