@@ -9,7 +9,7 @@ use lib.Dec.{eqb}
 use Rattle.sets.specs.Bits.{member, among}
 use Rattle.field.specs.Field.{front, whole}
 use Rattle.problem.specs.Problem.{formAt, Equal, Fresh, Assumed, Problem}
-use Rattle.problem.specs.Reader.{Item, node, equation, freshness, baseTags, lengthFits, item}
+use Rattle.problem.specs.Reader.{Item, node, equation, freshness, Reading, read, refused, reading, baseTags, lengthFits, item}
 
 -- At offset o of the input stands a whole field, of a known tag and a fitting length, that says the item.
 pub record Stands (s : List ℕ) (o : ℕ) (i : Item) : Type 0 where
@@ -35,3 +35,12 @@ pub record Held (s places equationPlaces freshPlaces assumed : List ℕ) (protec
       → Stands s (getD freshPlaces k 0) (freshness (getD (p .freshness) k d .atom) (getD (p .freshness) k d .node))
   pub assumptions : (a X : ℕ) → X < p .variables → member (getD assumed X 0) a ≡ assumes (p .assumptions) a X
   pub protection : (X : ℕ) → member protected X ≡ among X (p .protected)
+
+-- The problem that the input is, so that contracts can name it: where the reader refuses, the one with nothing in it.
+abbrev pub problemIn : Reading → Problem
+problemIn (read p) = p
+problemIn (refused n o) =
+    record { atoms = 0; variables = 0; limit = 0; nodes = []; equations = []; freshness = []; assumptions = []; protected = [] }
+
+unfoldable pub problemOf : List ℕ → Problem
+problemOf s = problemIn (reading baseTags s)
