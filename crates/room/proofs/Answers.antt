@@ -2,28 +2,34 @@
 -- and each fact stands once.
 use Prim.Native.Nat.{ℕ, _≤_}
 use native.Mathlib.Omega.{arith}
-use mathlib.Core.Path.{_≡_, ap}
+use mathlib.Core.Path.{_≡_, refl, ap}
+use mathlib.Core.Logic.{_≢_}
 use mathlib.Core.Option.{Option, none, some}
 use mathlib.Core.List.{List, [], _++_}
 use lib.ListN.{length}
+use borrow.Author.Tests.{le-leb}
 use Rattle.nominal.proofs.Solutions.{every-map}
 use Rattle.problem.specs.Problem.{Problem}
+use Rattle.field.specs.Field.{Bytes}
 use Rattle.problem.specs.Readable.{Readable}
+use Rattle.problem.specs.Reader.{Reading, read, reading, baseTags}
+use Rattle.problem.proofs.Readable.{readable}
+use Rattle.problem.proofs.Numbers.{OneToSeven, reading-number}
 use Rattle.run.specs.Meaning.{Binding, meaning, Fact}
-use Rattle.run.specs.Run.{Equation, Demand, End, limit, refused, finished, runOf, equationsFrom, groundOf}
-use Rattle.run.specs.Answer.{Asked, askedFresh, askedAssumed, askedRaised, resolvedAll, accepted, concluded, facts, verdictOf, answerBytes}
+use Rattle.run.specs.Run.{Equation, Demand, Refusal, clash, inside, protection, End, limit, refused, finished, runOf, equationsFrom, groundOf}
+use Rattle.run.specs.Answer.{Asked, askedFresh, askedAssumed, askedRaised, resolvedAll, Verdict, accepted, refusal, numberOf, concluded, facts, verdictOf, verdictRead, answerBytes, written, given, solve}
 use Rattle.run.proofs.States.{AtEnd, run-end}
 use Rattle.room.proofs.Bytes.{Narrow, answer-short, facts-few}
 use Rattle.room.proofs.Reached.{Once, Listed, once-next, once-few}
 use Rattle.room.proofs.Room.{once-start}
 
+abbrev asked : Problem → List Demand → List Asked
+asked p ds = askedFresh (p .nodes) (p .freshness) ++ askedAssumed (p .assumptions) ++ askedRaised (p .nodes) ds
+
 module _ (p : Problem) (r : Readable p) (k : ℕ) (bs : List Binding) (fs : List Fact) where
   -- The run's end, of which each variable is bound once.
   abbrev Sparse : List Equation → List Binding → List Demand → Type 1
   Sparse = Once (groundOf p) (p .variables) (r .named-nodes)
-
-  abbrev asked : List Demand → List Asked
-  asked ds = askedFresh (p .nodes) (p .freshness) ++ askedAssumed (p .assumptions) ++ askedRaised (p .nodes) ds
 
   short : (ds : List Demand) → Sparse [] bs ds → length fs ≤ 2048 → length (answerBytes k bs fs) ≤ 16384
   short ds o f =
@@ -46,7 +52,7 @@ module _ (p : Problem) (r : Readable p) (k : ℕ) (bs : List Binding) (fs : List
   unfolding verdictOf
   end-short (limit n) u e = absurd (let z : _≡_ {A = ℕ} 0 1 = cc in omega arith)
   end-short (refused q n) u e = absurd (let z : _≡_ {A = ℕ} 0 1 = cc in omega arith)
-  end-short (finished j cs ds) u e = concluded-short j cs ds u (resolvedAll (meaning (p .nodes) cs) (asked ds)) e
+  end-short (finished j cs ds) u e = concluded-short j cs ds u (resolvedAll (meaning (p .nodes) cs) (asked p ds)) e
 
   pub answer-room : verdictOf p (runOf p) ≡ accepted k bs fs → length (answerBytes k bs fs) ≤ 16384
   unfolding runOf
@@ -55,3 +61,42 @@ module _ (p : Problem) (r : Readable p) (k : ℕ) (bs : List Binding) (fs : List
       (run-end (groundOf p) Sparse (once-next (groundOf p) (p .variables) (r .named-nodes)) (p .limit) (equationsFrom (p .atoms) 0 (p .equations)) [] []
       (once-start p r (groundOf p .protected)))
       e
+
+-- ---- 13 is given to nobody who lends 16,384 bytes
+
+-- A refusal with another number.
+abbrev Other : Verdict → Type 0
+Other (accepted k bs fs) = Unit {0}
+Other (refusal n o) = n ≢ 13
+
+concluded-other : (p : Problem) (j : ℕ) (cs : List Binding) (o : Option (List Fact)) → Other (concluded p j cs o)
+concluded-other p j cs none = omega arith
+concluded-other p j cs (some gs) = tt
+
+numberOf-other : (q : Refusal) → numberOf q ≢ 13
+numberOf-other clash = omega arith
+numberOf-other inside = omega arith
+numberOf-other protection = omega arith
+
+verdict-other : (p : Problem) (e : End) → Other (verdictOf p e)
+unfolding verdictOf
+verdict-other p (limit n) = omega arith
+verdict-other p (refused q n) = numberOf-other q
+verdict-other p (finished j cs ds) = concluded-other p j cs (resolvedAll (meaning (p .nodes) cs) (asked p ds))
+
+given-other : (output : List ℕ) (v : Verdict) → Other v → ((k : ℕ) (bs : List Binding) (fs : List Fact) → v ≡ accepted k bs fs → length (answerBytes k bs fs) ≤ length output)
+    → given v output .number ≢ 13
+unfolding given written
+given-other output (accepted k bs fs) h f = rw (le-leb (length (answerBytes k bs fs)) (length output) (f k bs fs refl)) (omega arith)
+given-other output (refusal n o) h f = h
+
+read-other : (output : List ℕ) → 16384 ≤ length output → (q : Reading) → OneToSeven q → ((p : Problem) → q ≡ read p → Readable p) → given (verdictRead q) output .number ≢ 13
+unfolding verdictRead
+read-other output h (read p) k f =
+    given-other output (verdictOf p (runOf p)) (verdict-other p (runOf p)) (λ j bs fs e. let l = answer-room p (f p refl) j bs fs e in omega arith)
+read-other output h (Rattle.problem.specs.Reader.refused n o) k f =
+    given-other output (refusal n o) (omega arith) (λ j bs fs e. absurd (let z : _≡_ {A = ℕ} 0 1 = cc in omega arith))
+
+pub never-13 : (input output : List ℕ) → Bytes input → 16384 ≤ length output → solve input output .number ≢ 13
+unfolding solve
+never-13 input output b h = read-other output h (reading baseTags input) (reading-number baseTags input) (λ p e. readable baseTags input p b e)

@@ -1,19 +1,34 @@
 -- Document 01: "there is none for want of room for pending equations: within the limits a chain of parts never meets the same compound node twice,
 -- so room for 576 is enough", for the solver's run and the judge's, whatever the limit.
-use Prim.Native.Nat.{ℕ, zero, suc, _≤_}
+use Prim.Native.Nat.{ℕ, zero, suc, _+_, _≤_}
+use native.Mathlib.Nat.{zero-add, suc-add, add-suc}
 use native.Mathlib.Omega.{arith}
-use mathlib.Core.Path.{_≡_, refl, ap}
+use mathlib.Core.Path.{_≡_, refl, _∙_, ap}
 use mathlib.Core.Bool.{Bool, true}
 use mathlib.Core.List.{List, [], _∷_, _++_}
 use lib.ListN.{length}
 use Rattle.nominal.specs.Solutions.{Every}
 use Rattle.problem.specs.Problem.{Equal, Problem}
 use Rattle.problem.specs.Readable.{Readable}
-use Rattle.run.specs.Meaning.{Binding}
-use Rattle.run.specs.Run.{Equation, Demand, Ground, Step, refuses, goes-on, step, pending, bindings, demands, equationsFrom, groundOf}
+use Rattle.run.specs.Meaning.{Side, Binding}
+use Rattle.run.specs.Run.{Equation, Demand, Ground, Subject, Step, refuses, goes-on, step, pending, bindings, demands, next, run, equationsFrom, groundOf}
 use Rattle.run.proofs.States.{groundWith, start}
 use Rattle.room.specs.Stacks.{onwards, stacks, Reaches, at-start, after-step}
 use Rattle.room.proofs.Reached.{Once, reached-all, reached-few, once-next, once-few}
+
+-- What is reached lies on the run's own way: after so many steps, whatever the limit, the run goes on from there.
+run-onward : (g : Ground) (k : ℕ) (e : Equation) (es : List Equation) (bs : List Binding) (ds : List Demand) (qs : List (Side × Side)) (b : List (ℕ × Side)) (d : List (ℕ × Subject))
+    → step g bs (e .left) (e .right) ≡ goes-on qs b d
+    → run g (suc k) (e ∷ es) bs ds ≡ run g k (pending (e .number) qs ++ es) (bs ++ bindings (e .number) b) (ds ++ demands (e .number) d)
+unfolding run
+run-onward g k e es bs ds qs b d s = ap (next (λ es′ bs′ ds′. run g k es′ bs′ ds′) (e .number) es bs ds) s
+
+pub reached-run : {g : Ground} {es₀ es : List Equation} {bs₀ bs : List Binding} {ds₀ ds : List Demand} → Reaches g es₀ bs₀ ds₀ es bs ds
+    → (j : ℕ) × ((k : ℕ) → run g (j + k) es₀ bs₀ ds₀ ≡ run g k es bs ds)
+reached-run {g} at-start = (0, λ k. rw zero-add)
+reached-run {g} (after-step {e} {es} {bs} {ds} {qs} {b} {d} r s) =
+    let (j, h) = reached-run r in
+    (suc j, λ k. rw (suc-add, ← (add-suc j k)) (h (suc k) ∙ run-onward g k e es bs ds qs b d s))
 
 -- What holds of every stack that is reached holds of every stack of the run.
 module _ (g : Ground) (es₀ : List Equation) (bs₀ : List Binding) (ds₀ : List Demand) (R : List Equation → Type 0)
