@@ -1,6 +1,6 @@
 -- The laws of the store: what it holds of a table, and how a loop fills it.
-use Prim.Native.Nat.{ℕ, zero, suc, _+_, _-_, _^_, _≤_, _<_}
-use native.Mathlib.Nat.{add-zero, add-suc, suc-add, zero-add, two-pow-succ}
+use Prim.Native.Nat.{ℕ, zero, suc, _+_, _-_, _≤_, _<_}
+use native.Mathlib.Nat.{add-zero, add-suc, suc-add, zero-add}
 use native.Mathlib.Numerals.{add-one}
 use native.Mathlib.Omega.{arith}
 use mathlib.Core.Path.{_≡_, refl, sym, _∙_, ap, subst}
@@ -11,10 +11,12 @@ use lib.ListN.{length, getD, take, drop, set, replicate, length-append, length-t
 use lib.Seq.{take-at, set-at, set-append-left, append-snoc, length-take-le, getD-take, getD-set-same, getD-set-other, drop-cons}
 use lib.Dec.{eqb}
 use borrow.Author.Tests.{eq-eqb, ne-eqb}
-use Rattle.permutation.specs.Swaps.{Swaps, swapped, act, Within}
+use Rattle.permutation.specs.Swaps.{Swaps, swapped, act, Within, swapsIn}
 use Rattle.permutation.specs.Table.{Table, image, from, upto, tabulate, identity, after, placeFrom, place, inverted, ofSwaps, swappedAfter, kept, disagreement}
-use Rattle.permutation.specs.Store.{table, padded, ofTable, swapsIn, disagreeAt, setOf}
+use Rattle.permutation.specs.Store.{table, padded, ofTable, disagreeAt}
 use Rattle.permutation.specs.declared.Permutation.{Permutation}
+use Rattle.sets.specs.Bits.{inserted, ofList}
+use Rattle.sets.proofs.Bits.{ofList-append}
 use Rattle.permutation.proofs.Swaps.{by-eq, act-append, swapped-left, swapped-right, swapped-other}
 use Rattle.permutation.proofs.Table.{image-out, table-extensional, getD-default, image-map, image-tabulate, length-from, length-tabulate, length-ofSwaps, image-ofSwaps, ofSwaps-none}
 
@@ -225,11 +227,7 @@ passed-all n s i r d h =
     let e : swapsIn (drop i s) ≡ [] = swapsIn-none (drop i s) (rw length-drop (omega arith)) in
     d .held ∙ ap (λ (π : Swaps). padded (ofSwaps n π)) (sym (append-nil (d .done)) ∙ ap (λ (π : Swaps). d .done ++ π) (sym e) ∙ d .all)
 
--- ---- a set of atoms as a number
-
-setOf-append : (l m : List ℕ) → setOf (l ++ m) ≡ setOf l + setOf m
-setOf-append [] m = sym (zero-add (setOf m))
-setOf-append (a ∷ l) m = rw (setOf-append l m) (omega arith)
+-- ---- the disagreement set
 
 kept-append : (f : ℕ → Bool) (l m : List ℕ) → kept f (l ++ m) ≡ kept f l ++ kept f m
 kept-append f [] m = refl
@@ -239,46 +237,29 @@ kept-append f (a ∷ l) m = go (kept-append f l m) (f a)
     go e true = ap (λ (k : List ℕ). a ∷ k) e
     go e false = e
 
--- The atoms below i that f keeps.
-abbrev pub setBelow : (ℕ → Bool) → ℕ → ℕ
-setBelow f i = setOf (kept f (upto i))
+kept-end : (f : ℕ → Bool) (i : ℕ) → kept f (upto (i + 1)) ≡ kept f (upto i) ++ kept f (i ∷ [])
+kept-end f i =
+    ap (λ (k : ℕ). kept f (upto k)) (add-one i)
+    ∙ ap (kept f) (from-suc 0 i ∙ ap (λ (a : ℕ). upto i ++ (a ∷ [])) (zero-add i))
+    ∙ kept-append f (upto i) (i ∷ [])
 
-pub setBelow-more : (f : ℕ → Bool) (i : ℕ) → setBelow f (i + 1) ≡ setBelow f i + cond (f i) (2 ^ i) 0
-setBelow-more f i =
-    ap (setBelow f) (add-one i)
-    ∙ ap (λ (l : List ℕ). setOf (kept f l)) (from-suc 0 i ∙ ap (λ (a : ℕ). upto i ++ (a ∷ [])) (zero-add i))
-    ∙ ap setOf (kept-append f (upto i) (i ∷ []))
-    ∙ setOf-append (kept f (upto i)) (kept f (i ∷ []))
-    ∙ ap (λ (x : ℕ). setBelow f i + x) (go (f i))
-  where
-    go : (c : Bool) → setOf (cond c (i ∷ []) []) ≡ cond c (2 ^ i) 0
-    go true = add-zero (2 ^ i)
-    go false = refl
-
-pub setBelow-lt : (f : ℕ → Bool) (i : ℕ) → setBelow f i < 2 ^ i
-setBelow-lt f zero = omega arith
-setBelow-lt f (suc i) =
-    let h : setBelow f i < 2 ^ i = setBelow-lt f i in
-    let e : setBelow f (suc i) ≡ setBelow f i + cond (f i) (2 ^ i) 0 = ap (setBelow f) (sym (add-one i)) ∙ setBelow-more f i in
-    let d : 2 ^ suc i ≡ 2 ^ i + 2 ^ i = two-pow-succ i in
-    let g : cond (f i) (2 ^ i) 0 ≤ 2 ^ i = go (f i) in
-    omega arith
-  where
-    go : (c : Bool) → cond c (2 ^ i) 0 ≤ 2 ^ i
-    go true = omega arith
-    go false = omega arith
-
-pub setBelow-disagreement : (n : ℕ) (P Q : Table) → length P ≡ n → setBelow (disagreeAt P Q) n ≡ setOf (disagreement P Q)
-unfolding disagreement
-setBelow-disagreement n P Q l = rw l
+-- The disagreeing atoms below i, as a set.
+abbrev pub disagreementBelow : ℕ → Permutation → Permutation → ℕ → ℕ
+disagreementBelow n p q i = ofList 32 (kept (disagreeAt (table n p) (table n q)) (upto i))
 
 module _ (n : ℕ) (p q : Permutation) (i : ℕ) (h : i < n) (k : n ≤ length (p .images)) (l : n ≤ length (q .images)) where
-  pub set-disagreeing : getD (p .images) i 0 ≢ getD (q .images) i 0 → setBelow (disagreeAt (table n p) (table n q)) i + 2 ^ i ≡ setBelow (disagreeAt (table n p) (table n q)) (i + 1)
-  set-disagreeing m =
-      let e : disagreeAt (table n p) (table n q) i ≡ true = rw (image-table n p i h k, image-table n q i h l, ne-eqb (getD (p .images) i 0) (getD (q .images) i 0) m) in
-      sym (setBelow-more (disagreeAt (table n p) (table n q)) i ∙ ap (λ (c : Bool). setBelow (disagreeAt (table n p) (table n q)) i + cond c (2 ^ i) 0) e)
+  pub disagreement-more : getD (p .images) i 0 ≢ getD (q .images) i 0 → inserted 32 (disagreementBelow n p q i) i ≡ disagreementBelow n p q (i + 1)
+  disagreement-more m =
+      let f : ℕ → Bool = disagreeAt (table n p) (table n q) in
+      let e : f i ≡ true = rw (image-table n p i h k, image-table n q i h l, ne-eqb (getD (p .images) i 0) (getD (q .images) i 0) m) in
+      sym (ap (ofList 32) (kept-end f i ∙ ap (λ (c : Bool). kept f (upto i) ++ cond c (i ∷ []) []) e) ∙ ofList-append 32 (kept f (upto i)) i)
 
-  pub set-agreeing : getD (p .images) i 0 ≡ getD (q .images) i 0 → setBelow (disagreeAt (table n p) (table n q)) i ≡ setBelow (disagreeAt (table n p) (table n q)) (i + 1)
-  set-agreeing m =
-      let e : disagreeAt (table n p) (table n q) i ≡ false = rw (image-table n p i h k, image-table n q i h l, eq-eqb (getD (p .images) i 0) (getD (q .images) i 0) m) in
-      sym (setBelow-more (disagreeAt (table n p) (table n q)) i ∙ ap (λ (c : Bool). setBelow (disagreeAt (table n p) (table n q)) i + cond c (2 ^ i) 0) e ∙ add-zero (setBelow (disagreeAt (table n p) (table n q)) i))
+  pub disagreement-skip : getD (p .images) i 0 ≡ getD (q .images) i 0 → disagreementBelow n p q i ≡ disagreementBelow n p q (i + 1)
+  disagreement-skip m =
+      let f : ℕ → Bool = disagreeAt (table n p) (table n q) in
+      let e : f i ≡ false = rw (image-table n p i h k, image-table n q i h l, eq-eqb (getD (p .images) i 0) (getD (q .images) i 0) m) in
+      sym (ap (ofList 32) (kept-end f i ∙ ap (λ (c : Bool). kept f (upto i) ++ cond c (i ∷ []) []) e ∙ append-nil (kept f (upto i))))
+
+pub disagreement-all : (n : ℕ) (p q : Permutation) → n ≤ length (p .images) → disagreementBelow n p q n ≡ ofList 32 (disagreement (table n p) (table n q))
+unfolding disagreement
+disagreement-all n p q k = rw (length-table n p k)

@@ -1,11 +1,10 @@
 -- A permutation as the code keeps it, for up to 32 atoms. The contracts speak of it through `table` and `ofTable` alone, so that the store
 -- can change behind them (document 02, E9). Definitions alone; their laws are in proofs/.
-use Prim.Native.Nat.{ℕ, _+_, _-_, _^_}
+use Prim.Native.Nat.{ℕ, _-_}
 use mathlib.Core.Bool.{Bool, not}
-use mathlib.Core.List.{List, [], _∷_, _++_}
+use mathlib.Core.List.{List, _++_}
 use lib.ListN.{length, take, replicate}
 use lib.Dec.{eqb}
-use Rattle.permutation.specs.Swaps.{Swaps}
 use Rattle.permutation.specs.Table.{Table, image}
 use Rattle.permutation.specs.declared.Permutation.{Permutation}
 
@@ -20,17 +19,6 @@ padded P = P ++ replicate (32 - length P) 0
 unfoldable pub ofTable : Table → Permutation
 ofTable P = record { images = padded P }
 
--- A suspension's swaps in the problem's bytes: two atoms each.
-abbrev pub swapsIn : List ℕ → Swaps
-swapsIn [] = []
-swapsIn (a ∷ []) = []
-swapsIn (a ∷ b ∷ s) = (a, b) ∷ swapsIn s
-
 -- Whether two tables send an atom to different atoms.
 abbrev pub disagreeAt : Table → Table → ℕ → Bool
 disagreeAt P Q a = not (eqb (image P a) (image Q a))
-
--- A set of atoms as a number: bit a for atom a.
-abbrev pub setOf : List ℕ → ℕ
-setOf [] = 0
-setOf (a ∷ l) = 2 ^ a + setOf l

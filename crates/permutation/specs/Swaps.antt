@@ -44,3 +44,9 @@ atoms (s ∷ π) = s .0 ∷ s .1 ∷ atoms π
 abbrev pub Within : ℕ → Swaps → Type 0
 Within A [] = Unit {0}
 Within A (s ∷ π) = ((s .0 < A) × (s .1 < A)) × Within A π
+
+-- "0 to 32 swaps of two atoms each": a suspension's swaps in the problem's bytes, in their order.
+abbrev pub swapsIn : List ℕ → Swaps
+swapsIn [] = []
+swapsIn (a ∷ []) = []
+swapsIn (a ∷ b ∷ s) = (a, b) ∷ swapsIn s

@@ -4,10 +4,12 @@
 
 ghost use mathlib.Core.Path.{_≡_};
 ghost use Prim.Native.Nat.{_≤_};
-ghost use Rattle.permutation.specs.Swaps.{swapped, Within};
+ghost use Rattle.permutation.specs.Swaps.{swapped, Within, swapsIn};
 ghost use Rattle.permutation.specs.Table.{image, identity, after, inverted, ofSwaps, swappedAfter, disagreement};
-ghost use Rattle.permutation.specs.Store.{table, ofTable, swapsIn, disagreeAt, setOf};
+ghost use Rattle.permutation.specs.Store.{table, ofTable, disagreeAt};
+ghost use Rattle.sets.specs.Bits.{ofList};
 use names::Atom;
+use sets::AtomSet;
 
 pub struct Permutation {
     pub images: [u8; 32],
@@ -137,20 +139,18 @@ pub fn disagree(p: Permutation, q: Permutation, n: usize, a: Atom) -> bool
     x.0 != y.0
 }
 
-// The disagreement set, as a set of 32 bits.
-pub fn disagreement_set(p: Permutation, q: Permutation, n: usize) -> u32
+// The disagreement set.
+pub fn disagreement(p: Permutation, q: Permutation, n: usize) -> AtomSet
     requires { ⌜ n ≤ 32 ⌝ }
-    ensures { λ r. ⌜ r ≡ setOf (disagreement (table n p) (table n q)) ⌝ }
+    ensures { λ r. ⌜ r .0 ≡ ofList 32 (disagreement (table n p) (table n q)) ⌝ }
 {
-    let mut set: u64 = 0;
-    let mut bit: u64 = 1;
+    let mut r = AtomSet::empty();
     let mut i: usize = 0;
     while i < n {
         if p.images[i] != q.images[i] {
-            set += bit;
+            r = r.with(Atom(i as u8));
         }
-        bit *= 2;
         i += 1;
     }
-    set as u32
+    r
 }

@@ -5,6 +5,7 @@ use mathlib.Core.Bool.{Bool, true, false, not, _&&_, _||_, cond}
 use mathlib.Core.List.{List, [], _∷_, _++_}
 use lib.ListN.{length, drop}
 use lib.Dec.{eqb, leb, ltb}
+use Rattle.permutation.specs.Swaps as swaps
 use Rattle.permutation.specs.Swaps.{Swaps}
 use Rattle.field.specs.Field.{Field, cut, whole, byte, word, long, front}
 use Rattle.problem.specs.Problem.{Node, unit-form, atom-form, abstraction-form, pair-form, application-form, suspension-form, Equal, Fresh, Assumed, Problem}
@@ -43,9 +44,7 @@ lengthFits tag n =
 
 -- "0 to 32 swaps of two atoms each".
 abbrev pub swapsIn : List ℕ → Swaps
-swapsIn [] = []
-swapsIn (a ∷ []) = []
-swapsIn (a ∷ b ∷ s) = (a, b) ∷ swapsIn s
+swapsIn s = swaps.swapsIn s
 
 -- The table's column "body".
 unfoldable pub item : ℕ → List ℕ → Item

@@ -4,7 +4,8 @@ use native.Mathlib.Omega.{arith}
 use lib.ListN.{length}
 use borrow.Author.Needs.{needs}
 use Rattle.permutation.specs.Table.{ofSwaps}
-use Rattle.permutation.specs.Store.{ofTable, swapsIn}
+use Rattle.permutation.specs.Swaps.{swapsIn}
+use Rattle.permutation.specs.Store.{ofTable}
 use Rattle.permutation.proofs.Store.{stored, Passed, passed-none, passed-left, passed-right, passed-more, passed-all}
 use Rattle.permutation.proofs.of_swaps.Statement.{statement}
 use Rattle.permutation.proofs.of_swaps.Tie as tie
