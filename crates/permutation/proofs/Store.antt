@@ -6,7 +6,7 @@ use native.Mathlib.Omega.{arith}
 use mathlib.Core.Path.{_≡_, refl, sym, _∙_, ap, subst}
 use mathlib.Core.Logic.{_≢_}
 use mathlib.Core.Bool.{Bool, true, false, cond}
-use mathlib.Core.List.{List, [], _∷_, _++_, map, map-append, map-id, append-assoc, append-nil}
+use mathlib.Core.List.{List, [], _∷_, _++_, map, map-append, map-id, append-assoc, append-nil, List·Memᴰ, List·Memᴰ·head, List·Memᴰ·tail}
 use lib.ListN.{length, getD, take, drop, set, replicate, length-append, length-take, length-drop, List·getD-append, length-map, length-replicate, length-set, drop-of-length-le, replicate-append-replicate}
 use lib.Seq.{take-at, set-at, set-append-left, append-snoc, length-take-le, getD-take, getD-set-same, getD-set-other, drop-cons}
 use lib.Dec.{eqb}
@@ -15,10 +15,10 @@ use Rattle.permutation.specs.Swaps.{Swaps, swapped, act, Within, swapsIn
 use Rattle.permutation.specs.Table.{Table, image, from, upto, tabulate, identity, after, placeFrom, place, inverted, ofSwaps, swappedAfter, kept, disagreement}
 use Rattle.permutation.specs.Store.{table, padded, ofTable, disagreeAt}
 use Rattle.permutation.specs.declared.Permutation.{Permutation}
-use Rattle.sets.specs.Bits.{inserted, ofList}
-use Rattle.sets.proofs.Bits.{ofList-append}
+use Rattle.sets.specs.Bits.{member, inserted, membersFrom, members, ofList, among}
+use Rattle.sets.proofs.Bits.{member-past, ofList-append, ofList-lt, member-ofList}
 use Rattle.permutation.proofs.Swaps.{by-eq, act-append, swapped-left, swapped-right, swapped-other}
-use Rattle.permutation.proofs.Table.{image-out, table-extensional, getD-default, image-map, image-tabulate, length-from, length-tabulate, length-ofSwaps, image-ofSwaps, ofSwaps-none}
+use Rattle.permutation.proofs.Table.{by-lt, image-out, mem-disagreement, table-extensional, getD-default, image-map, image-tabulate, length-from, length-tabulate, length-identity, length-after, length-inverted, length-swappedAfter, length-ofSwaps, image-ofSwaps, ofSwaps-none}
 
 -- ---- table and store
 
@@ -38,6 +38,21 @@ image-table-out n p a h = image-out (take n (p .images)) a (rw length-take (omeg
 pub table-ofTable : (n : ℕ) (P : Table) → length P ≡ n → table n (ofTable P) ≡ P
 unfolding table ofTable padded
 table-ofTable n P l = take-at P (replicate (32 - length P) 0) n l
+
+pub table-identity : (n : ℕ) → table n (ofTable (identity n)) ≡ identity n
+table-identity n = table-ofTable n (identity n) (length-identity n)
+
+pub table-after : (n : ℕ) (P Q : Table) → length Q ≡ n → table n (ofTable (after P Q)) ≡ after P Q
+table-after n P Q l = table-ofTable n (after P Q) (length-after P Q ∙ l)
+
+pub table-inverted : (n : ℕ) (P : Table) → length P ≡ n → table n (ofTable (inverted P)) ≡ inverted P
+table-inverted n P l = table-ofTable n (inverted P) (length-inverted P ∙ l)
+
+pub table-ofSwaps : (n : ℕ) (π : Swaps) → table n (ofTable (ofSwaps n π)) ≡ ofSwaps n π
+table-ofSwaps n π = table-ofTable n (ofSwaps n π) (length-ofSwaps n π)
+
+pub table-swappedAfter : (n a b : ℕ) (P : Table) → length P ≡ n → table n (ofTable (swappedAfter a b P)) ≡ swappedAfter a b P
+table-swappedAfter n a b P l = table-ofTable n (swappedAfter a b P) (length-swappedAfter a b P ∙ l)
 
 pub length-padded : (P : Table) → length P ≤ 32 → length (padded P) ≡ 32
 unfolding padded
@@ -263,3 +278,64 @@ module _ (n : ℕ) (p q : Permutation) (i : ℕ) (h : i < n) (k : n ≤ length (
 pub disagreement-all : (n : ℕ) (p q : Permutation) → n ≤ length (p .images) → disagreementBelow n p q n ≡ ofList 32 (disagreement (table n p) (table n q))
 unfolding disagreement
 disagreement-all n p q k = rw (length-table n p k)
+
+-- ---- the members of the disagreement set, from the lowest up, are the disagreement
+
+kept-same : (f g : ℕ → Bool) (i n : ℕ) → ((a : ℕ) → i ≤ a → a < i + n → f a ≡ g a) → kept f (from i n) ≡ kept g (from i n)
+kept-same f g i zero h = refl
+kept-same f g i (suc n) h =
+    let e : kept f (from (suc i) n) ≡ kept g (from (suc i) n) = kept-same f g (suc i) n (λ a l k. h a (omega arith) (omega arith)) in
+    rw (h i (omega arith) (omega arith), e)
+
+kept-nothing : (f : ℕ → Bool) (i n : ℕ) → ((a : ℕ) → i ≤ a → a < i + n → f a ≡ false) → kept f (from i n) ≡ []
+kept-nothing f i zero h = refl
+kept-nothing f i (suc n) h = rw (h i (omega arith) (omega arith)) (kept-nothing f (suc i) n (λ a l k. h a (omega arith) (omega arith)))
+
+from-append : (i n m : ℕ) → from i (n + m) ≡ from i n ++ from (i + n) m
+from-append i zero m = rw (zero-add m, add-zero i)
+from-append i (suc n) m = rw (suc-add n m) (ap (λ (l : List ℕ). i ∷ l) (from-append (suc i) n m ∙ rw (suc-add i n, add-suc i n)))
+
+members-kept : (i n w : ℕ) → membersFrom i n w ≡ kept (member w) (from i n)
+members-kept i zero w = refl
+members-kept i (suc n) w = rw (members-kept (suc i) n w)
+
+among-mem : (a : ℕ) (l : List ℕ) → List·Memᴰ a l → among a l ≡ true
+among-mem a (b ∷ l) (List·Memᴰ·head e) = rw (eq-eqb a b e)
+among-mem a (b ∷ l) (List·Memᴰ·tail k) = by-eq a b (λ e. rw (eq-eqb a b e)) (λ n. rw (ne-eqb a b n) (among-mem a l k))
+
+among-no-mem : (a : ℕ) (l : List ℕ) → (List·Memᴰ a l → ⊥) → among a l ≡ false
+among-no-mem a [] h = refl
+among-no-mem a (b ∷ l) h = rw (ne-eqb a b (λ e. h (List·Memᴰ·head e))) (among-no-mem a l (λ k. h (List·Memᴰ·tail k)))
+
+-- What `has` says of the disagreement set.
+pub member-disagreement : (P Q : Table) (a : ℕ) → a < length P → length P ≤ 32 → member (ofList 32 (disagreement P Q)) a ≡ disagreeAt P Q a
+member-disagreement P Q a h k =
+    member-ofList 32 (disagreement P Q) a (omega arith)
+    ∙ by-eq (image P a) (image Q a) (λ e.
+    among-no-mem a (disagreement P Q) (λ m. mem-disagreement P Q a .0 m .1 e) ∙ sym (rw (eq-eqb (image P a) (image Q a) e))) λ n.
+    among-mem a (disagreement P Q) (mem-disagreement P Q a .1 (h, n)) ∙ sym (rw (ne-eqb (image P a) (image Q a) n))
+
+pub member-disagreement-out : (P Q : Table) (a : ℕ) → length P ≤ a → member (ofList 32 (disagreement P Q)) a ≡ false
+member-disagreement-out P Q a h =
+    by-lt a 32 (λ k. member-ofList 32 (disagreement P Q) a k
+    ∙ among-no-mem a (disagreement P Q) (λ m. let l = mem-disagreement P Q a .0 m .0 in omega arith)) λ k.
+    member-past 32 (ofList 32 (disagreement P Q)) a (ofList-lt 32 (disagreement P Q)) k
+
+disagreement-kept : (P Q : Table) → kept (disagreeAt P Q) (upto (length P)) ≡ disagreement P Q
+unfolding disagreement
+disagreement-kept P Q = refl
+
+pub members-disagreement : (P Q : Table) → length P ≤ 32 → members 32 (ofList 32 (disagreement P Q)) ≡ disagreement P Q
+unfolding members
+members-disagreement P Q h =
+    let n : ℕ = length P in
+    let w : ℕ = ofList 32 (disagreement P Q) in
+    let e : n + (32 - n) ≡ 32 = omega arith in
+    members-kept 0 32 w
+    ∙ ap (λ (k : ℕ). kept (member w) (from 0 k)) (sym e)
+    ∙ ap (kept (member w)) (from-append 0 n (32 - n))
+    ∙ kept-append (member w) (from 0 n) (from (0 + n) (32 - n))
+    ∙ ap (λ (l : List ℕ). kept (member w) (from 0 n) ++ l) (kept-nothing (member w) (0 + n) (32 - n) (λ a l k. member-disagreement-out P Q a (omega arith)))
+    ∙ append-nil (kept (member w) (from 0 n))
+    ∙ kept-same (member w) (disagreeAt P Q) 0 n (λ a l k. member-disagreement P Q a (omega arith) h)
+    ∙ disagreement-kept P Q

@@ -110,6 +110,10 @@ outside A (s ∷ π) a w h =
     let (l, m) = w .0 in
     rw (outside A π a (w .1) h) (swapped-other (s .0) (s .1) a (λ p. omega arith) (λ p. omega arith))
 
+pub within-more : (A B : ℕ) (π : Swaps) → A ≤ B → Within A π → Within B π
+within-more A B [] h w = tt
+within-more A B (s ∷ π) h w = let (l, m) = w .0 in ((omega arith, omega arith), within-more A B π h (w .1))
+
 pub within-append : (A : ℕ) (π ρ : Swaps) → Within A π → Within A ρ → Within A (π ++ ρ)
 within-append A [] ρ v w = w
 within-append A (s ∷ π) ρ v w = (v .0, within-append A π ρ (v .1) w)

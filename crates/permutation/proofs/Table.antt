@@ -420,3 +420,12 @@ disagreement-ofSwaps n π ρ a v w = (
     λ e. d (sym (image-ofSwaps-within n π a v) ∙ e ∙ image-ofSwaps-within n ρ a w),
   ),
 )
+
+-- Document 01's example as tables, with a, b, c for 0, 1, 2: (a c)(a b) is 1 2 0, and disagrees with (b c) on exactly a and c.
+pub table-example : ofSwaps 3 ((0, 2) ∷ (0, 1) ∷ []) ≡ 1 ∷ 2 ∷ 0 ∷ []
+unfolding ofSwaps swapped
+table-example = refl
+
+pub disagreement-example : disagreement (ofSwaps 3 ((0, 2) ∷ (0, 1) ∷ [])) (ofSwaps 3 ((1, 2) ∷ [])) ≡ 0 ∷ 2 ∷ []
+unfolding disagreement ofSwaps swapped
+disagreement-example = refl
