@@ -1,14 +1,14 @@
 -- The laws of problems and substitutions that are the same but for lists of swaps that send every atom alike.
 use Prim.Native.Nat.{ℕ}
-use mathlib.Core.Path.{_≡_, refl, sym, _∙_, ap}
+use mathlib.Core.Path.{_≡_, refl, _∙_}
 use mathlib.Core.List.{List, [], _∷_, _++_, map}
 use Rattle.permutation.specs.Swaps.{Swaps, Alike}
 use Rattle.permutation.proofs.Swaps.{by-eq}
 use Rattle.nominal.specs.Tree.{Tree, variable, permute, Substitution, substitute, replacing}
 use Rattle.nominal.specs.Solutions.{Demand, Equation, Problem}
 use Rattle.nominal.proofs.Replacing.{replacing-same, replacing-other}
-use Rattle.run.proofs.Same.{Same, same-reflexive, same-symmetric, same-transitive, same-permute, same-permuted, same-substitute, same-substitutions}
-use Rattle.figure3.specs.Figure3.{Each, AlikeDemands, AlikeEquations, AlikeProblems, AlikeSubstitutions}
+use Rattle.run.proofs.Same.{Same, same-reflexive, same-transitive, same-permute, same-permuted, same-substitute, same-substitutions}
+use Rattle.figure3.specs.Figure3.{Each, AlikeDemands, AlikeEquations, AlikeProblems, AlikeSubstitutions, FirstPhase, none, then}
 
 -- ---- trees and substitutions
 
@@ -42,6 +42,13 @@ pub each-map : {A B : Type 0} (R : B → B → Type 0) (f g : A → B) → ((x :
 each-map R f g h [] = tt
 each-map R f g h (x ∷ l) = (h x, each-map R f g h l)
 
+pub each-transitive : {A : Type 0} (R : A → A → Type 0) → ((x y z : A) → R x y → R y z → R x z) → (l m n : List A) → Each R l m → Each R m n → Each R l n
+each-transitive R h [] [] n a b = b
+each-transitive R h [] (y ∷ m) n a b = absurd a
+each-transitive R h (x ∷ l) [] n a b = absurd a
+each-transitive R h (x ∷ l) (y ∷ m) [] a b = absurd b
+each-transitive R h (x ∷ l) (y ∷ m) (z ∷ n) a b = (h x y z (a .0) (b .0), each-transitive R h l m n (a .1) (b .1))
+
 -- ---- problems
 
 pub demands-reflexive : (D : List Demand) → Each AlikeDemands D D
@@ -49,3 +56,17 @@ demands-reflexive D = each-reflexive AlikeDemands (λ d. (refl, same-reflexive (
 
 pub equations-reflexive : (E : List Equation) → Each AlikeEquations E E
 equations-reflexive E = each-reflexive AlikeEquations (λ e. (same-reflexive (e .0), same-reflexive (e .1))) E
+
+pub alike-transitive : {P Q R : Problem} → AlikeProblems P Q → AlikeProblems Q R → AlikeProblems P R
+alike-transitive {P} {Q} {R} a b = record {
+  demands = each-transitive AlikeDemands (λ c d e x y. (x .0 ∙ y .0, same-transitive (x .1) (y .1))) (P .demands) (Q .demands) (R .demands) (a .demands) (b .demands);
+  equations = each-transitive AlikeEquations (λ c d e x y. (same-transitive (x .0) (y .0), same-transitive (x .1) (y .1))) (P .equations) (Q .equations) (R .equations) (a .equations) (b .equations);
+}
+
+pub alike-reflexive : (P : Problem) → AlikeProblems P P
+alike-reflexive P = record { demands = demands-reflexive (P .demands); equations = equations-reflexive (P .equations) }
+
+-- A sequence may end in any problem alike to its last.
+pub phase-alike : {isProtected : ℕ → Type 0} {P Q R : Problem} {n : ℕ} {τ : Substitution} → FirstPhase isProtected P n τ Q → AlikeProblems Q R → FirstPhase isProtected P n τ R
+phase-alike (none a) b = none (alike-transitive a b)
+phase-alike (then s f a) b = then s f (alike-transitive a b)

@@ -2,22 +2,21 @@
 -- numbers (n₁, n₂), where n₁ is the number of different variables used in P, and n₂ is the size of all equational problems in P".
 use Prim.Native.Nat.{ℕ, zero, suc, _+_, _≤_, _<_}
 use native.Mathlib.Omega.{arith}
-use mathlib.Core.Path.{_≡_, refl, sym, _∙_, ap}
+use mathlib.Core.Path.{_≡_, refl, sym, _∙_}
 use mathlib.Core.Logic.{_≢_, _⊎_, inl, inr}
 use mathlib.Core.Bool.{cond}
 use mathlib.Core.List.{List, [], _∷_, _++_, map, List·Memᴰ, List·Memᴰ·head, List·Memᴰ·tail, Memᴰ·append-left, Memᴰ·append-right}
 use lib.ListN.{length}
 use lib.Dec.{eqb}
 use borrow.Author.Tests.{eq-eqb, ne-eqb}
-use Rattle.permutation.specs.Swaps.{Swaps, inverse}
 use Rattle.permutation.proofs.Swaps.{by-eq}
-use Rattle.nominal.specs.Tree.{Tree, unit, atom, abstraction, pair, application, suspension, variable, permute, size, Occurs, substitute, replacing}
-use Rattle.nominal.specs.Solutions.{Every, Demand, Equation, Problem}
+use Rattle.nominal.specs.Tree.{Tree, unit, atom, abstraction, pair, application, suspension, variable, size, Occurs, substitute, replacing}
+use Rattle.nominal.specs.Solutions.{Every, Facts, Demand, Equation, Problem}
 use Rattle.nominal.proofs.Tree.{size-permute, occurs-permute, occurs-substitute}
 use Rattle.nominal.proofs.Solutions.{every-append, every-map}
 use Rattle.nominal.proofs.Replacing.{replacing-same, replacing-other}
-use Rattle.run.proofs.Same.{Same, same-size, same-occurs}
-use Rattle.figure3.specs.Figure3.{Label, ε, _:=_, putInto, Equational, ≈?-unit, ≈?-pair, ≈?-function-symbol, ≈?-abstraction-1, ≈?-abstraction-2, ≈?-atom, ≈?-suspension, ≈?-variable-right, ≈?-variable-left, First, first, Each, AlikeDemands, AlikeEquations, AlikeProblems, Terminates, terminates}
+use Rattle.run.proofs.Same.{same-size, same-occurs}
+use Rattle.figure3.specs.Figure3.{Label, ε, _:=_, putInto, Equational, ≈?-unit, ≈?-pair, ≈?-function-symbol, ≈?-abstraction-1, ≈?-abstraction-2, ≈?-atom, ≈?-suspension, ≈?-variable-right, ≈?-variable-left, First, first, Freshness, #?-unit, #?-pair, #?-function-symbol, #?-abstraction-1, #?-abstraction-2, #?-atom, #?-suspension, Second, second, Each, AlikeDemands, AlikeEquations, AlikeProblems, Terminates, terminates}
 
 -- "the size (see Definition 2.10) of all equational problems in P"
 abbrev pub sizes : List Equation → ℕ
@@ -97,19 +96,19 @@ module _ {isProtected : ℕ → Type 0} where
   rule-keeps Xs h k (≈?-suspension {X = X} ds i) = (tt, every-one Xs X (h X refl) ds)
 
   rule-eliminates : {s t : Tree} {X : ℕ} {u : Tree} {E : List Equation} {D : List Demand} → Equational isProtected s t (X := u) E D → Eliminates s t X u E D
-  rule-eliminates (≈?-variable-right {t = t} {π = π} {X = X} p n) = record {
+  rule-eliminates (≈?-variable-right p n) = record {
     no-equations = refl;
     no-demands = refl;
     used = inr refl;
-    absent = λ o. n (rw (occurs-permute X (inverse π) t) at o);
-    only = λ Y o. inl (rw (occurs-permute Y (inverse π) t) at o);
+    absent = λ o. n (rw occurs-permute at o);
+    only = λ Y o. inl (rw occurs-permute at o);
   }
-  rule-eliminates (≈?-variable-left {t = t} {π = π} {X = X} p n) = record {
+  rule-eliminates (≈?-variable-left p n) = record {
     no-equations = refl;
     no-demands = refl;
     used = inl refl;
-    absent = λ o. n (rw (occurs-permute X (inverse π) t) at o);
-    only = λ Y o. inr (rw (occurs-permute Y (inverse π) t) at o);
+    absent = λ o. n (rw occurs-permute at o);
+    only = λ Y o. inr (rw occurs-permute at o);
   }
 
 uses-put : (Xs : List ℕ) (X : ℕ) (u : Tree) → (Occurs X u → ⊥) → Uses Xs u → (t : Tree) → Uses Xs t → Uses (without X Xs) (substitute (replacing X u) t)
@@ -270,3 +269,28 @@ pub terminating : (isProtected : ℕ → Type 0) (P : Problem) → Terminates is
 terminating isProtected P =
     let Xs : List ℕ = variablesOfDemands (P .demands) ++ variablesOfEquations (P .equations) in
     by-variables isProtected (suc (length Xs)) Xs P (omega arith) (covers-own P)
+
+-- ---- the second phase
+
+-- "For the =∇⇒-steps the size Σ |t| decreases in every step."
+abbrev pub demandSizes : List Demand → ℕ
+demandSizes [] = 0
+demandSizes (d ∷ D) = size (d .1) + demandSizes D
+
+demandSizes-append : (D F : List Demand) → demandSizes (D ++ F) ≡ demandSizes D + demandSizes F
+demandSizes-append [] F = omega arith
+demandSizes-append (d ∷ D) F = omega (arith, demandSizes-append D F)
+
+freshness-decreases : {a : ℕ} {t : Tree} {∇ : Facts} {D : List Demand} → Freshness a t ∇ D → demandSizes D < size t
+freshness-decreases #?-unit = omega arith
+freshness-decreases #?-pair = omega arith
+freshness-decreases #?-function-symbol = omega arith
+freshness-decreases #?-abstraction-1 = omega arith
+freshness-decreases (#?-abstraction-2 n) = omega arith
+freshness-decreases (#?-atom n) = omega arith
+freshness-decreases #?-suspension = omega arith
+
+-- So a series of the second phase has no more transformations than that.
+pub second-decreases : {P Q : Problem} {∇ : Facts} → Second P ∇ Q → demandSizes (Q .demands) < demandSizes (P .demands)
+second-decreases (second {a = a} {t = t} {D′ = D′} D D″ E f) =
+    omega (arith, demandSizes-append D (D′ ++ D″), demandSizes-append D′ D″, demandSizes-append D ((a, t) ∷ D″), freshness-decreases f)

@@ -88,15 +88,15 @@ AlikeSubstitutions σ τ = (X : ℕ) → Same (σ X) (τ X)
 
 -- A sequence of n transformations of the first phase, "P =σ₁⇒ .. =σₙ⇒ P′", with its labels composed, "σₙ ∘ .. ∘ σ₁". Between two of them stand
 -- alike problems.
-pub data FirstPhase (isProtected : ℕ → Type 0) : ℕ → Problem → Substitution → Problem → Type 0 where
-  none : {P Q : Problem} → AlikeProblems P Q → FirstPhase isProtected zero P variable Q
-  then : {n : ℕ} {P Q R S : Problem} {σ : Label} {τ : Substitution} → AlikeProblems P Q → First isProtected Q σ R → FirstPhase isProtected n R τ S
-      → FirstPhase isProtected (suc n) P (composed τ (substitutionOf σ)) S
+pub data FirstPhase (isProtected : ℕ → Type 0) (P : Problem) : ℕ → Substitution → Problem → Type 0 where
+  none : {Q : Problem} → AlikeProblems P Q → FirstPhase isProtected P zero variable Q
+  then : {n : ℕ} {Q R S : Problem} {σ : Label} {τ : Substitution} → FirstPhase isProtected P n τ Q → First isProtected Q σ R → AlikeProblems R S
+      → FirstPhase isProtected P (suc n) (composed (substitutionOf σ) τ) S
 
 -- A sequence of transformations of the second phase, "P =∇₁⇒ .. =∇ₘ⇒ P′", with its labels joined, "∇₁ ∪ .. ∪ ∇ₘ".
 pub data SecondPhase : Problem → Facts → Problem → Type 0 where
-  none : {P : Problem} → SecondPhase P [] P
-  then : {P Q R : Problem} {∇ ∇′ : Facts} → Second P ∇ Q → SecondPhase Q ∇′ R → SecondPhase P (∇ ++ ∇′) R
+  stays : {P : Problem} → SecondPhase P [] P
+  goes : {P Q R : Problem} {∇ ∇′ : Facts} → Second P ∇ Q → SecondPhase Q ∇′ R → SecondPhase P (∇ ++ ∇′) R
 
 -- "otherwise it halts signalling failure": no rule is for t ≈? t′, and none for a #? t.
 abbrev pub NoEquational : (ℕ → Type 0) → Tree → Tree → Type 0
@@ -104,6 +104,17 @@ NoEquational isProtected t t′ = (σ : Label) (E : List Equation) (D : List Dem
 
 abbrev pub NoFreshness : ℕ → Tree → Type 0
 NoFreshness a t = (∇ : Facts) (D : List Demand) → Freshness a t ∇ D → ⊥
+
+-- "∅"
+abbrev pub emptyProblem : Problem
+emptyProblem = record { demands = []; equations = [] }
+
+-- The second phase comes to "a #? a", for which there is no rule.
+pub record Fails (P : Problem) : Type 0 where
+  pub label : Facts
+  pub atom : ℕ
+  pub others : List Demand
+  pub sequence : SecondPhase P label (record { demands = (atom, Rattle.nominal.specs.Tree.atom atom) ∷ others; equations = P .equations })
 
 -- 003, lemma 3.2: "There is no infinite series of unification transitions." From P on, every series of the first phase comes to an end.
 pub data Terminates (isProtected : ℕ → Type 0) : Problem → Type 0 where

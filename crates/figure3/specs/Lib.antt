@@ -1,1 +1,3 @@
 pub mod Figure3
+pub mod Ran
+pub mod Account
