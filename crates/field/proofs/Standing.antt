@@ -1,12 +1,13 @@
 -- Where a whole field stands in the bytes that it was found in.
 use Prim.Native.Nat.{ℕ, suc, _+_, _*_, _-_, _≤_, _<_}
 use native.Mathlib.Omega.{arith}
+use native.Mathlib.Nat.{le-refl}
 use native.Mathlib.Decide.{decLt}
 use mathlib.Core.Path.{_≡_, refl, sym, _∙_, ap}
 use mathlib.Core.Bool.{Bool, true, false, cond}
 use mathlib.Core.List.{List, [], _∷_}
 use lib.ListN.{length, getD, take, drop, length-take, length-drop, List·getD-eq-default}
-use lib.Seq.{drop-drop, getD-take, getD-drop, length-take-le}
+use lib.Seq.{take-all, drop-drop, getD-take, getD-drop, length-take-le}
 use lib.Dec.{leb}
 use borrow.Author.Tests.{leb-true, le-leb, lt-leb}
 use Rattle.field.specs.Field.{Field, cut, whole, front, bodied, byte, word, Bytes, Stands}
@@ -46,3 +47,7 @@ bytes-take n s b i = go (decLt i n)
 
 pub bytes-body : (s : List ℕ) (tag : ℕ) (body rest : List ℕ) → Bytes s → Stands s tag body rest → Bytes body
 bytes-body s tag body rest b w = rw (w .the-body) (bytes-take (length body) (drop 3 s) (bytes-drop 3 s b))
+
+-- A part that goes to the end is what is left of the list.
+pub tail-part : (s : List ℕ) (e : ℕ) → take (length s - e) (drop e s) ≡ drop e s
+tail-part s e = take-all (length s - e) (drop e s) (rw (length-drop e s) (le-refl (length s - e)))

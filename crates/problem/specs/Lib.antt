@@ -2,3 +2,4 @@ pub mod Problem
 pub mod Reader
 pub mod Readable
 pub mod Held
+pub mod Told

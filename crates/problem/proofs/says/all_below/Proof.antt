@@ -1,0 +1,51 @@
+-- `says::all_below`. What is left to look at decides as all of it did, and it gets shorter.
+use borrow.Author.Needs.{needs}
+use mathlib.Core.Path.{_≡_, refl, sym, _∙_}
+use Prim.Native.Nat.{_≤_, _-_}
+use native.Mathlib.Omega.{arith}
+use lib.ListN.{length, drop}
+use Rattle.problem.specs.Told.{below}
+use Rattle.problem.proofs.Saying.{below-stops, below-goes, below-ends}
+use Rattle.problem.proofs.says.all_below.Statement.{statement}
+use Rattle.problem.proofs.says.all_below.Tie as tie
+
+abbrev Inv-loop : tie.InvT-loop
+Inv-loop b atoms i₀ i = (i ≤ length b) × (below atoms b ≡ below atoms (drop i b))
+
+abbrev μ-loop : tie.MeasureT-loop
+μ-loop b atoms i₀ i = length b - i
+
+loop-holds : tie.Need-loop-holds Inv-loop μ-loop
+loop-holds c = (omega arith, refl)
+
+shared-slice-read-if1 : tie.Need-shared-slice-read-if1 Inv-loop μ-loop
+shared-slice-read-if1 c = search needs
+
+returns : tie.Need-returns Inv-loop μ-loop
+returns c = sym (c .before .before .before .loop .inv .1 ∙ below-stops (c .before .before .before .before .args .atoms) (c .before .before .before .before .args .b .now) (c .before .before .before .loop .i) (c .before .before .loop-test .taken) (c .if1 .taken))
+
+add-i : tie.Need-add-i Inv-loop μ-loop
+add-i c = search needs
+
+loop-less : tie.Need-loop-less Inv-loop μ-loop
+loop-less c = search needs
+
+loop-again : tie.Need-loop-again Inv-loop μ-loop
+loop-again c = (omega arith, c .before .before .before .loop .inv .1 ∙ below-goes (c .before .before .before .before .args .atoms) (c .before .before .before .before .args .b .now) (c .before .before .before .loop .i) (c .before .before .loop-test .taken) (c .if1 .left))
+
+returns-2 : tie.Need-returns-2 Inv-loop μ-loop
+returns-2 c = sym (c .before .loop .inv .1 ∙ below-ends (c .before .before .args .atoms) (c .before .before .args .b .now) (c .before .loop .i) (c .loop-test .left))
+
+pub all-below-spec : {M : Type 1} → statement M
+all-below-spec =
+    tie.close
+    (tie.spec
+    Inv-loop
+    μ-loop
+    loop-holds
+    shared-slice-read-if1
+    returns
+    add-i
+    loop-less
+    loop-again
+    returns-2)

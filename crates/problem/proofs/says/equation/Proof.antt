@@ -1,0 +1,47 @@
+-- `says::equation`: each way out is the law for the tests passed so far.
+use mathlib.Core.Path.{refl, sym}
+use borrow.Author.Tests.{eq-eqb, ne-eqb, lt-ltb, le-ltb}
+use lib.ListN.{length}
+use Rattle.field.specs.Field.{word}
+use Rattle.problem.specs.Reader.{baseTags, lengthFits, item, room, there}
+use Rattle.problem.specs.Told.{sized}
+use Rattle.problem.proofs.Saying.{wrong-length, too-many, not-there, sound}
+use borrow.Author.Needs.{needs}
+use Rattle.problem.proofs.says.equation.Statement.{statement}
+use Rattle.problem.proofs.says.equation.Tie as tie
+
+returns : tie.Need-returns
+unfolding baseTags lengthFits item room there
+returns c =
+    sym (wrong-length (sized (c .before .before .args .z)) 0x20 (c .before .before .args .b .now) refl (rw (ne-eqb (length (c .before .before .args .b .now)) 4 (c .if1 .taken))))
+
+returns-2 : tie.Need-returns-2
+unfolding baseTags lengthFits item room there
+returns-2 c =
+    sym (too-many (sized (c .before .before .before .before .args .z)) 0x20 (c .before .before .before .before .args .b .now) refl (rw (eq-eqb (length (c .before .before .before .before .args .b .now)) 4 (c .before .before .if1 .left))) (le-ltb (c .before .before .before .before .args .z .equations) 64 (c .if2 .taken)))
+
+two-requires : tie.Need-two-requires
+two-requires c κs = search needs
+
+returns-3 : tie.Need-returns-3
+unfolding baseTags lengthFits item room there
+returns-3 c =
+    sym (not-there (sized (c .before .before .before .before .before .before .before .args .z)) 0x20 (c .before .before .before .before .before .before .before .args .b .now) refl (rw (eq-eqb (length (c .before .before .before .before .before .before .before .args .b .now)) 4 (c .before .before .before .before .before .if1 .left))) (lt-ltb (c .before .before .before .before .before .before .before .args .z .equations) 64 (c .before .before .before .if2 .left)) (rw (le-ltb (word (c .before .before .before .before .before .before .before .args .b .now) 0) (c .before .before .before .before .before .before .before .args .z .nodes) (rw (c .before .before .two .ensures) at (c .if3 .taken)))))
+
+two-requires-2 : tie.Need-two-requires-2
+two-requires-2 c κs = search needs
+
+returns-4 : tie.Need-returns-4
+unfolding baseTags lengthFits item room there
+returns-4 c =
+    sym (not-there (sized (c .before .before .before .before .before .before .before .before .before .before .args .z)) 0x20 (c .before .before .before .before .before .before .before .before .before .before .args .b .now) refl (rw (eq-eqb (length (c .before .before .before .before .before .before .before .before .before .before .args .b .now)) 4 (c .before .before .before .before .before .before .before .before .if1 .left))) (lt-ltb (c .before .before .before .before .before .before .before .before .before .before .args .z .equations) 64 (c .before .before .before .before .before .before .if2 .left)) (rw (lt-ltb (word (c .before .before .before .before .before .before .before .before .before .before .args .b .now) 0) (c .before .before .before .before .before .before .before .before .before .before .args .z .nodes) (rw (c .before .before .before .before .before .two .ensures) at (c .before .before .before .if3 .left)), le-ltb (word (c .before .before .before .before .before .before .before .before .before .before .args .b .now) 2) (c .before .before .before .before .before .before .before .before .before .before .args .z .nodes) (rw (c .before .before .two2 .ensures) at (c .if4 .taken)))))
+
+returns-5 : tie.Need-returns-5
+unfolding baseTags lengthFits item room there
+returns-5 c =
+    sym (sound (sized (c .before .before .before .before .before .before .before .before .before .before .args .z)) 0x20 (c .before .before .before .before .before .before .before .before .before .before .args .b .now) refl (rw (eq-eqb (length (c .before .before .before .before .before .before .before .before .before .before .args .b .now)) 4 (c .before .before .before .before .before .before .before .before .if1 .left))) (lt-ltb (c .before .before .before .before .before .before .before .before .before .before .args .z .equations) 64 (c .before .before .before .before .before .before .if2 .left)) (rw (lt-ltb (word (c .before .before .before .before .before .before .before .before .before .before .args .b .now) 0) (c .before .before .before .before .before .before .before .before .before .before .args .z .nodes) (rw (c .before .before .before .before .before .two .ensures) at (c .before .before .before .if3 .left)), lt-ltb (word (c .before .before .before .before .before .before .before .before .before .before .args .b .now) 2) (c .before .before .before .before .before .before .before .before .before .before .args .z .nodes) (rw (c .before .before .two2 .ensures) at (c .if4 .left)))))
+
+pub equation-spec : {M : Type 1} → statement M
+equation-spec =
+    tie.close
+    (tie.spec returns returns-2 two-requires returns-3 two-requires-2 returns-4 returns-5)
