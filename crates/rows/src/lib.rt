@@ -1,0 +1,38 @@
+// Permutations kept in a lent table of rows of 32 bytes: the run's pending equations and its bindings have such tables. Only the bytes of the n
+// atoms in use are read and written, so that the cost follows n and a table may hold anything where no row is in use. This crate and
+// `permutation` are the only ones that know how a permutation is stored.
+
+ghost use mathlib.Core.Path.{_≡_};
+ghost use Prim.Native.Nat.{_+_, _*_, _≤_};
+ghost use lib.ListN.{length};
+ghost use Rattle.permutation.specs.Store.{table, ofTable};
+ghost use Rattle.rows.specs.Rows.{row, withRow};
+use permutation::Permutation;
+
+// The permutation of n atoms in row i.
+pub fn load(rows: &[u8], i: usize, n: usize) -> Permutation
+    requires { ⌜ (n ≤ 32) × (i * 32 + 32 ≤ length (now rows)) ⌝ }
+    ensures { λ r. ⌜ r ≡ ofTable (row n i (now (rows .entry))) ⌝ }
+{
+    let mut r = Permutation { images: [0; 32] };
+    let start = i * 32;
+    let mut k: usize = 0;
+    while k < n {
+        r.images[k] = rows[start + k];
+        k += 1;
+    }
+    r
+}
+
+// Row i becomes p, of n atoms. Every other byte stays.
+pub fn store(rows: &mut [u8], i: usize, n: usize, p: Permutation)
+    requires { ⌜ (n ≤ 32) × (i * 32 + 32 ≤ length (now rows)) ⌝ }
+    ensures { λ r. ⌜ now (rows .exit) ≡ withRow i (table n p) (now (rows .entry)) ⌝ }
+{
+    let start = i * 32;
+    let mut k: usize = 0;
+    while k < n {
+        rows[start + k] = p.images[k];
+        k += 1;
+    }
+}
