@@ -1,10 +1,12 @@
-// Permutations kept in a lent table of rows of 32 bytes: the run's pending equations and its bindings have such tables. Only the bytes of the n
-// atoms in use are read and written, so that the cost follows n and a table may hold anything where no row is in use. This crate and
-// `permutation` are the only ones that know how a permutation is stored.
+// What stands at a place of a lent table: a permutation in a row of 32 bytes, a byte, a number of two bytes. The run's pending equations and its
+// bindings have such tables. Of a row only the bytes of the n atoms in use are read and written, so that the cost follows n and a table may hold
+// anything where no row is in use. This crate and `permutation` are the only ones that know how a permutation is stored.
+//
+// A caller lends its arrays to these functions as slices: so it learns their lengths, which reading or writing an array's element does not tell.
 
 ghost use mathlib.Core.Path.{_≡_};
-ghost use Prim.Native.Nat.{_+_, _*_, _≤_};
-ghost use lib.ListN.{length};
+ghost use Prim.Native.Nat.{_+_, _*_, _≤_, _<_};
+ghost use lib.ListN.{length, getD, set};
 ghost use Rattle.permutation.specs.Store.{table, ofTable};
 ghost use Rattle.rows.specs.Rows.{row, withRow};
 use permutation::Permutation;
@@ -35,4 +37,32 @@ pub fn store(rows: &mut [u8], i: usize, n: usize, p: Permutation)
         rows[start + k] = p.images[k];
         k += 1;
     }
+}
+
+pub fn byte(bytes: &[u8], i: usize) -> u8
+    requires { ⌜ i < length (now bytes) ⌝ }
+    ensures { λ r. ⌜ r ≡ getD (now (bytes .entry)) i 0 ⌝ }
+{
+    bytes[i]
+}
+
+pub fn set_byte(bytes: &mut [u8], i: usize, v: u8)
+    requires { ⌜ i < length (now bytes) ⌝ }
+    ensures { λ r. ⌜ now (bytes .exit) ≡ set (now (bytes .entry)) i v ⌝ }
+{
+    bytes[i] = v;
+}
+
+pub fn number(numbers: &[u16], i: usize) -> u16
+    requires { ⌜ i < length (now numbers) ⌝ }
+    ensures { λ r. ⌜ r ≡ getD (now (numbers .entry)) i 0 ⌝ }
+{
+    numbers[i]
+}
+
+pub fn set_number(numbers: &mut [u16], i: usize, v: u16)
+    requires { ⌜ i < length (now numbers) ⌝ }
+    ensures { λ r. ⌜ now (numbers .exit) ≡ set (now (numbers .entry)) i v ⌝ }
+{
+    numbers[i] = v;
 }

@@ -1,0 +1,70 @@
+-- The pending equations in tables: what the definition's stack (run, specs/Run.antt) is read off them. Definitions alone; their laws are in proofs/.
+use Prim.Native.Nat.{ℕ, zero, suc, _+_}
+use mathlib.Core.Path.{_≡_}
+use mathlib.Core.List.{List, [], _∷_}
+use lib.ListN.{getD, set}
+use Rattle.permutation.specs.Store.{table, ofTable}
+use Rattle.rows.specs.Rows.{row, withRow}
+use Rattle.run.specs.Run.{Equation}
+use Rattle.stack.specs.declared.Pending.{Pending}
+
+pub record Stack : Type 0 where
+  pub numbers : List ℕ
+  pub lefts : List ℕ
+  pub rights : List ℕ
+  pub leftImages : List ℕ
+  pub rightImages : List ℕ
+
+abbrev pub tables : List ℕ → List ℕ → List ℕ → List ℕ → List ℕ → Stack
+tables numbers lefts rights leftImages rightImages = record { numbers = numbers; lefts = lefts; rights = rights; leftImages = leftImages; rightImages = rightImages }
+
+-- The equation at place i, with A atoms in use.
+unfoldable pub equationAt : ℕ → Stack → ℕ → Equation
+equationAt A t i =
+    record {
+      number = getD (t .numbers) i 0;
+      left = record { images = row A i (t .leftImages); node = getD (t .lefts) i 0 };
+      right = record { images = row A i (t .rightImages); node = getD (t .rights) i 0 };
+    }
+
+-- "Equations wait in a stack": with n of them the top is at place n - 1.
+unfoldable pub stackOf : ℕ → Stack → ℕ → List Equation
+stackOf A t zero = []
+stackOf A t (suc n) = equationAt A t n ∷ stackOf A t n
+
+-- The definition's equation of one that the code holds.
+unfoldable pub equationOf : ℕ → Pending → Equation
+equationOf A e =
+    record { number = e .number; left = record { images = table A (e .left); node = e .«left_node» .0 }; right = record { images = table A (e .right); node = e .«right_node» .0 } }
+
+-- The tables with an equation at place n; every other place stays.
+unfoldable pub withEquation : ℕ → Equation → Stack → Stack
+withEquation n e t =
+    record {
+      numbers = set (t .numbers) n (e .number);
+      lefts = set (t .lefts) n (e .left .node);
+      rights = set (t .rights) n (e .right .node);
+      leftImages = withRow n (e .left .images) (t .leftImages);
+      rightImages = withRow n (e .right .images) (t .rightImages);
+    }
+
+-- What the code makes of place i.
+unfoldable pub pendingAt : ℕ → Stack → ℕ → Pending
+pendingAt A t i =
+    record {
+      number = getD (t .numbers) i 0;
+      left = ofTable (row A i (t .leftImages));
+      «left_node» = record { 0 = getD (t .lefts) i 0 };
+      right = ofTable (row A i (t .rightImages));
+      «right_node» = record { 0 = getD (t .rights) i 0 };
+    }
+
+-- What pushing does: the tables' whole content, and what that is as a stack.
+pub record Pushed (A : ℕ) (before : Stack) (n : ℕ) (e : Pending) (after : Stack) : Type 0 where
+  pub content : after ≡ withEquation n (equationOf A e) before
+  pub stack : stackOf A after (n + 1) ≡ equationOf A e ∷ stackOf A before n
+
+-- What reading the top gives.
+pub record Topped (A : ℕ) (t : Stack) (n : ℕ) (r : Pending) : Type 0 where
+  pub content : r ≡ pendingAt A t n
+  pub stack : stackOf A t (n + 1) ≡ equationOf A r ∷ stackOf A t n
