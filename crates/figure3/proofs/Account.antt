@@ -7,11 +7,14 @@ use mathlib.Core.List.{List, [], _++_, List·Memᴰ}
 use mathlib.Core.Option.{Option, none, some}
 use Rattle.nominal.specs.Solutions.{Every, Facts}
 use Rattle.nominal.proofs.Solutions.{every-at}
+use Rattle.field.specs.Field.{Bytes}
 use Rattle.problem.specs.Problem.{Problem}
+use Rattle.problem.specs.Reader.{read, reading, baseTags}
 use Rattle.problem.specs.Readable.{Readable}
+use Rattle.problem.proofs.Readable.{readable}
 use Rattle.run.specs.Meaning.{Binding, Fact, meaning}
 use Rattle.run.specs.Run.{Equation, Demand, clash, inside, protection, End, limit, refused, finished, run, equationsFrom, groundOf, runOf}
-use Rattle.run.specs.Answer.{Asked, askedRaised, resolvedAll, facts, refusal, concluded, verdictOf}
+use Rattle.run.specs.Answer.{Asked, askedRaised, resolvedAll, facts, refusal, concluded, verdictOf, verdictRead}
 use Rattle.run.proofs.Limit.{Ends, longer, run-longer}
 use Rattle.run.proofs.Questions.{Wherever, NamedFact}
 use Rattle.run.proofs.Facts.{mem-facts}
@@ -55,6 +58,11 @@ module _ (p : Problem) (r : Readable p) where
   -- Demand 2: "the one run of their transformations that document 01 fixes".
   pub verdict-is-figure3 : Account p (verdictOf p (runOf p))
   verdict-is-figure3 = end-account (runOf p) (solver-is-figure3 p r) at-end
+
+-- The same, said of bytes.
+pub reading-is-figure3 : (input : List ℕ) (p : Problem) → Bytes input → reading baseTags input ≡ read p → Account p (verdictRead (reading baseTags input))
+unfolding verdictRead
+reading-is-figure3 input p b e = rw e (verdict-is-figure3 p (readable baseTags input p b e))
 
 -- ---- the limit is the only way to fail
 

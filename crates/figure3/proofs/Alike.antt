@@ -7,7 +7,8 @@ use Rattle.permutation.proofs.Swaps.{by-eq}
 use Rattle.nominal.specs.Tree.{Tree, variable, permute, Substitution, substitute, replacing}
 use Rattle.nominal.specs.Solutions.{Demand, Equation, Problem}
 use Rattle.nominal.proofs.Replacing.{replacing-same, replacing-other}
-use Rattle.run.proofs.Same.{Same, same-reflexive, same-transitive, same-permute, same-permuted, same-substitute, same-substitutions}
+use Rattle.nominal.specs.Same.{Same}
+use Rattle.run.proofs.Same.{same-reflexive, same-transitive, same-permute, same-permuted, same-substitute, same-substitutions}
 use Rattle.figure3.specs.Figure3.{Each, AlikeDemands, AlikeEquations, AlikeProblems, AlikeSubstitutions, FirstPhase, none, then}
 
 -- ---- trees and substitutions

@@ -14,7 +14,8 @@ use Rattle.run.specs.Meaning.{Side, tree, sideTree, Binding}
 use Rattle.run.specs.Run.{Equation, Subject, Demand, Ground, Refusal, Step, refuses, goes-on, step, pending, bindings, demands, End, limit, next, run, equationsFrom, groundOf, runOf}
 use Rattle.run.specs.Answer.{Asked, askedFresh, judgedRun}
 use Rattle.run.proofs.Limit.{Ends, run-ends}
-use Rattle.run.proofs.Same.{Same, same-reflexive, same-symmetric, same-transitive}
+use Rattle.nominal.specs.Same.{Same}
+use Rattle.run.proofs.Same.{same-reflexive, same-symmetric, same-transitive}
 use Rattle.run.proofs.Trees.{plain, tree-plain}
 use Rattle.run.proofs.States.{State, state-next, groundWith, start, meaning-none}
 use Rattle.solutions.specs.Promises.{asked}

@@ -7,7 +7,8 @@ use Rattle.permutation.specs.Swaps.{Swaps}
 use Rattle.nominal.specs.Tree.{Tree, atom, application, suspension, Occurs}
 use Rattle.nominal.specs.Solutions.{Demand, Equation}
 use Rattle.nominal.specs.Form.{form}
-use Rattle.run.proofs.Same.{Same, same-unit, same-atom, same-abstraction, same-pair, same-application, same-suspension, same-symmetric, same-occurs}
+use Rattle.nominal.specs.Same.{Same, same-unit, same-atom, same-abstraction, same-pair, same-application, same-suspension}
+use Rattle.run.proofs.Same.{same-symmetric, same-occurs}
 use Rattle.figure3.specs.Figure3.{Label, Equational, ≈?-unit, ≈?-pair, ≈?-function-symbol, ≈?-abstraction-1, ≈?-abstraction-2, ≈?-atom, ≈?-suspension, ≈?-variable-right, ≈?-variable-left, NoEquational}
 
 -- Some rule is for t ≈? t′.

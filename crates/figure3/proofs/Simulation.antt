@@ -21,7 +21,8 @@ use Rattle.problem.specs.Readable.{Named}
 use Rattle.run.specs.Meaning.{Side, sideTree, Binding, meaning}
 use Rattle.run.specs.Run.{Subject, of-variable, of-side, Ground, valueOf, under, resolved, Refusal, clash, inside, protection, Step, refuses, goes-on, step}
 use Rattle.run.specs.Answer.{subjectTree}
-use Rattle.run.proofs.Same.{Same, same-reflexive, same-symmetric, same-transitive, same-permute, same-substitute, alike-inverse}
+use Rattle.nominal.specs.Same.{Same}
+use Rattle.run.proofs.Same.{same-reflexive, same-symmetric, same-transitive, same-permute, same-substitute, alike-inverse}
 use Rattle.run.proofs.Trees.{Permuting, Fits, act-permuting, tree-under-inverted, tree-underSwap, underSwap, Shows, top-shows, TopFits, top-fits}
 use Rattle.run.proofs.Did.{kind, NotOf, Did, step-did, two-units, same-atoms, same-abstractions, other-abstractions, two-pairs, same-symbols, one-variable, left-bound, right-bound, left-inside, right-inside, left-protected, right-protected, both-protected, different-forms, different-atoms, different-symbols}
 use Rattle.run.proofs.Questions.{occursIn-true, occursIn-false}

@@ -10,7 +10,8 @@ use Rattle.problem.specs.Readable.{Named}
 use Rattle.run.specs.Meaning.{Side, sideTree, Binding, meaning}
 use Rattle.run.specs.Run.{Equation, Subject, Demand, Ground, goes-on, step, pending, bindings, demands}
 use Rattle.run.specs.Answer.{Asked, askedRaised, subjectTree}
-use Rattle.run.proofs.Same.{Same, same-transitive, same-substitutions}
+use Rattle.nominal.specs.Same.{Same}
+use Rattle.run.proofs.Same.{same-transitive, same-substitutions}
 use Rattle.run.proofs.Bindings.{meaning-more}
 use Rattle.run.proofs.States.{State}
 use Rattle.figure3.specs.Figure3.{Label, ε, _:=_, substitutionOf, First, first, Each, AlikeDemands, AlikeEquations, AlikeProblems, AlikeSubstitutions}

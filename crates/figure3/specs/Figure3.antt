@@ -7,7 +7,7 @@ use mathlib.Core.List.{List, [], _∷_, _++_, map, List·Memᴰ}
 use Rattle.permutation.specs.Swaps.{Swaps, act, inverse, Disagree}
 use Rattle.nominal.specs.Tree.{Tree, unit, atom, abstraction, pair, application, suspension, variable, permute, Occurs, Substitution, substitute, composed, replacing}
 use Rattle.nominal.specs.Solutions.{Facts, Demand, Equation, Problem}
-use Rattle.run.proofs.Same.{Same}
+use Rattle.nominal.specs.Same.{Same}
 
 -- 003, definition 3.1: "A unification problem P is a finite set of atomic problems, each of which is either an equational problem t ≈? t' .. or a
 -- freshness problem a #? t". The two kinds stand in a list each (`Problem`). Their order plays no part: the problem taken may stand anywhere, and

@@ -4,3 +4,4 @@ pub mod Solutions
 pub mod Form
 pub mod Decide
 pub mod Adequacy
+pub mod Same

@@ -25,7 +25,8 @@ use Rattle.problem.specs.Problem.{Form, unit-form, atom-form, abstraction-form,
 use Rattle.problem.specs.Readable.{Named}
 use Rattle.run.specs.Meaning.{Side, sideTree, Binding, meaningAfter, meaning}
 use Rattle.run.specs.Run.{Ground, permuted, top, valueOf, under, replacement, replaced, resolvedIn, resolved}
-use Rattle.run.proofs.Same.{Same, same-reflexive, same-symmetric, same-transitive, same-permute, same-substitute, same-equal}
+use Rattle.nominal.specs.Same.{Same}
+use Rattle.run.proofs.Same.{same-reflexive, same-symmetric, same-transitive, same-permute, same-substitute, same-equal}
 use Rattle.run.proofs.Trees.{Permuting, Fits, fits-under, tree-under, act-permuting, Shows, TopFits, top-shows, top-fits, NamedTree, named-substitute, named-side}
 
 -- ---- the value of a variable

@@ -1,5 +1,5 @@
--- Trees that are the same but for lists of swaps that send every atom alike. Sides carry tables, so two ways to the same side can give such
--- trees; nothing that the run or figure 2 asks of a tree tells them apart.
+-- The laws of trees that are the same but for lists of swaps that send every atom alike: nothing that the run or figure 2 asks of a tree tells them
+-- apart.
 use Prim.Native.Nat.{ℕ, suc, _+_}
 use mathlib.Core.Path.{_≡_, refl, sym, _∙_, ap}
 use mathlib.Core.Bool.{Bool, _||_}
@@ -11,15 +11,8 @@ use Rattle.permutation.specs.Swaps.{Swaps, act, inverse, Alike}
 use Rattle.permutation.proofs.Swaps.{act-append, inverse-act, act-inverse}
 use Rattle.nominal.specs.Tree.{Tree, unit, atom, abstraction, pair, application, suspension, variable, permute, size, Occurs, Substitution, substitute}
 use Rattle.nominal.specs.Figure2.{Environment, _⊢_#_, _⊢_≈_, ≈-unit, ≈-pair, ≈-function-symbol, ≈-abstraction-1, ≈-atom, ≈-suspension}
+use Rattle.nominal.specs.Same.{Same, same-unit, same-atom, same-abstraction, same-pair, same-application, same-suspension}
 use Rattle.run.specs.Meaning.{occursIn, freshFor, both}
-
-pub data Same : Tree → Tree → Type 0 where
-  same-unit : Same unit unit
-  same-atom : {a : ℕ} → Same (atom a) (atom a)
-  same-abstraction : {a : ℕ} {s t : Tree} → Same s t → Same (abstraction a s) (abstraction a t)
-  same-pair : {s₁ s₂ t₁ t₂ : Tree} → Same s₁ t₁ → Same s₂ t₂ → Same (pair s₁ s₂) (pair t₁ t₂)
-  same-application : {f : ℕ} {s t : Tree} → Same s t → Same (application f s) (application f t)
-  same-suspension : {π ρ : Swaps} {X : ℕ} → Alike π ρ → Same (suspension π X) (suspension ρ X)
 
 pub same-reflexive : (t : Tree) → Same t t
 same-reflexive unit = same-unit

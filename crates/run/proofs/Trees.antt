@@ -16,7 +16,8 @@ use Rattle.problem.specs.Problem.{Form, unit-form, atom-form, abstraction-form,
 use Rattle.problem.specs.Readable.{Named}
 use Rattle.run.specs.Meaning.{treeOf, treesAfter, tree, Side, sideTree}
 use Rattle.run.specs.Run.{Ground, permuted, top, under}
-use Rattle.run.proofs.Same.{Same, same-reflexive, same-symmetric, same-transitive, same-permute, same-permuted}
+use Rattle.nominal.specs.Same.{Same}
+use Rattle.run.proofs.Same.{same-reflexive, same-symmetric, same-transitive, same-permute, same-permuted}
 
 -- ---- the trees of nodes
 

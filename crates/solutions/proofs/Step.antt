@@ -24,7 +24,8 @@ use Rattle.problem.specs.Readable.{Named}
 use Rattle.run.specs.Meaning.{Side, sideTree, Binding, meaning}
 use Rattle.run.specs.Run.{Ground, Subject, of-variable, of-side, top, valueOf, under, resolved, Step, refuses, goes-on, step}
 use Rattle.run.specs.Answer.{subjectTree}
-use Rattle.run.proofs.Same.{Same, same-symmetric, same-transitive, same-permute, same-substitute, same-equal, alike-inverse}
+use Rattle.nominal.specs.Same.{Same}
+use Rattle.run.proofs.Same.{same-symmetric, same-transitive, same-permute, same-substitute, same-equal, alike-inverse}
 use Rattle.run.proofs.Trees.{Permuting, Fits, act-permuting, tree-under-inverted, tree-underSwap, Shows, TopFits, top-shows, top-fits}
 use Rattle.run.proofs.Did.{Did, step-did, kind, NotOf, two-units, same-atoms, same-abstractions, other-abstractions, two-pairs, same-symbols, one-variable, left-bound, right-bound, left-inside, right-inside, left-protected, right-protected, both-protected, different-forms, different-atoms, different-symbols}
 use Rattle.run.proofs.Questions.{occursIn-true}
