@@ -21,7 +21,7 @@ use Rattle.run.proofs.States.{State, state-next, groundWith, start, meaning-non
 use Rattle.solutions.specs.Promises.{asked}
 use Rattle.figure3.specs.Figure3.{Label, substitutionOf, First, Each, AlikeDemands, AlikeEquations, AlikeProblems, none, then, Terminates, terminates}
 use Rattle.figure3.specs.Ran.{unificationProblem, putAsked, putEquations, stateProblem, Protected, Reached, Top, StuckAt, Ran}
-use Rattle.figure3.proofs.Alike.{same-of, same-put, alike-transitive, phase-alike}
+use Rattle.figure3.proofs.Alike.{same-of, same-put, alike-transitive, alike-reflexive, phase-alike}
 use Rattle.figure3.proofs.Termination.{terminating}
 use Rattle.figure3.proofs.Simulation.{Stepped, step-as, stuck-alike}
 use Rattle.figure3.proofs.Transforms.{transforms}
@@ -92,6 +92,14 @@ module _ (g : Ground) (variables : ℕ) (named : (n : ℕ) → Named (g .atoms) 
       let k = next-enough P (λ Q R σ x y es′ bs′ ds′ b t. enough-from R (f Q R σ x y) es′ bs′ ds′ b t) e es bs ds a s (step g bs (e .left) (e .right)) refl in
       (suc (k .0), k .1)
 
+-- From any state of which the invariants hold, whatever was bound and demanded before, a number of steps is enough, and so is every larger one.
+pub enough-state : (g : Ground) (variables : ℕ) (named : (n : ℕ) → Named (g .atoms) variables n (formAt (g .nodes) n)) (es : List Equation) (bs : List Binding) (ds : List Demand)
+    → State g variables named es bs ds → (N : ℕ) × ((L : ℕ) → N ≤ L → Ends (run g L es bs ds))
+enough-state g variables named es bs ds s =
+    let P : Solutions.Problem = stateProblem g [] es bs ds in
+    let k = enough-from g variables named [] P (terminating (Protected g) P) es bs ds (alike-reflexive P) s in
+    (k .0, λ L h. run-ends g (k .0) L es bs ds h (k .1))
+
 -- ---- readable problems
 
 demanded-alike : (demanded : List Asked) → Each AlikeDemands demanded (putAsked variable demanded)
@@ -119,11 +127,7 @@ module _ (p : Problem) (r : Readable p) (isProtected : ℕ → Bool) where
 
   -- 003, lemma 3.2: a number of steps is enough, and so is every larger one.
   pub enough : (N : ℕ) × ((L : ℕ) → N ≤ L → Ends (run (groundWith p isProtected) L (equationsFrom (p .atoms) 0 (p .equations)) [] []))
-  enough =
-      let g : Ground = groundWith p isProtected in
-      let es : List Equation = equationsFrom (p .atoms) 0 (p .equations) in
-      let k = enough-from g (p .variables) (r .named-nodes) [] (unificationProblem p []) (terminating (Protected g) (unificationProblem p [])) es [] [] (start-alike []) (start p r isProtected) in
-      (k .0, λ L h. run-ends g (k .0) L es [] [] h (k .1))
+  enough = enough-state (groundWith p isProtected) (p .variables) (r .named-nodes) (equationsFrom (p .atoms) 0 (p .equations)) [] [] (start p r isProtected)
 
 -- The solver's run, and the judge's, in which every variable is protected.
 pub solver-is-figure3 : (p : Problem) → Readable p → Ran (groundOf p) (asked p .demands) (asked p) (p .limit) (runOf p)

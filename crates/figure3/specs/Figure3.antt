@@ -10,8 +10,9 @@ use Rattle.nominal.specs.Solutions.{Facts, Demand, Equation, Problem}
 use Rattle.nominal.specs.Same.{Same}
 
 -- 003, definition 3.1: "A unification problem P is a finite set of atomic problems, each of which is either an equational problem t ≈? t' .. or a
--- freshness problem a #? t". The two kinds stand in a list each (`Problem`). Their order plays no part: the problem taken may stand anywhere, and
--- what comes of it stands in its place. One that stands there twice is taken twice.
+-- freshness problem a #? t". The two kinds stand in a list each (`Problem`), read as a multiset. Order plays no part: the problem taken may stand
+-- anywhere, equational problems that come of it stand in its place and freshness problems that an equation raises at the end. One that stands there
+-- twice, which in 003's set it cannot, is taken twice, as the run does.
 
 -- "the substitution σ is either the identity ε, or a single replacement [X := t]"
 infix 20 _:=_
