@@ -1,30 +1,28 @@
 -- The meaning of bindings. One record says all that is used of bindings and the substitution that they mean; it knows no order. It holds of no
 -- bindings, and one more binding, made as the run makes it, keeps it.
-use Prim.Native.Nat.{ℕ, zero, suc, _+_, _≤_, _<_}
+use Prim.Native.Nat.{ℕ, zero, suc, _<_}
 use native.Mathlib.Omega.{arith}
 use native.Mathlib.Numerals.{add-one}
 use mathlib.Core.Path.{_≡_, refl, sym, _∙_, ap}
-use mathlib.Core.Logic.{_≢_, _↔_, _⊎_, inl, inr}
-use mathlib.Core.Bool.{Bool, true, false, cond}
+use mathlib.Core.Logic.{_≢_, _↔_}
 use mathlib.Core.List.{List, [], _∷_, _++_}
 use mathlib.Core.Option.{Option, none, some}
 use lib.ListN.{length, length-append}
-use lib.Dec.{eqb}
 use borrow.Author.Tests.{eq-eqb, ne-eqb}
-use Rattle.permutation.specs.Swaps.{Swaps, act, Alike}
-use Rattle.permutation.specs.Table.{Table, image, after, ofSwaps, swapsOf}
+use Rattle.permutation.specs.Swaps.{Swaps, Alike}
+use Rattle.permutation.specs.Table.{Table, after, ofSwaps, swapsOf}
 use Rattle.permutation.proofs.Swaps.{by-eq}
-use Rattle.nominal.specs.Tree.{Tree, suspension, variable, permute, Occurs, Substitution, substitute, composed, replacing}
+use Rattle.nominal.specs.Tree.{Tree, suspension, variable, Occurs, Substitution, substitute, composed, replacing}
 use Rattle.nominal.specs.Figure2.{Environment, _⊢_≈_}
 use Rattle.nominal.specs.Solutions.{Satisfies, Idempotent}
-use Rattle.nominal.proofs.Tree.{permute-nil, substitute-permute, substitute-variable, substitute-composed, substitute-agree, occurs-substitute, occurs-permute}
+use Rattle.nominal.proofs.Tree.{permute-nil, substitute-permute, substitute-variable, substitute-composed, substitute-agree, occurs-substitute}
 use Rattle.nominal.proofs.Laws.{equal-symmetric, equal-transitive, equal-reflexive}
 use Rattle.nominal.proofs.Solutions.{satisfies-tree}
-use Rattle.nominal.proofs.Replacing.{replacing-same, replacing-other, replacing-absent, extended, extended-same, extended-other, extended-tree, extended-satisfied}
+use Rattle.nominal.proofs.Replacing.{replacing-same, replacing-other, replacing-absent, extended-same, extended-other, extended-tree, extended-satisfied}
 use Rattle.problem.specs.Problem.{Form, unit-form, atom-form, abstraction-form, pair-form, application-form, suspension-form, Node, formAt}
 use Rattle.problem.specs.Readable.{Named}
 use Rattle.run.specs.Meaning.{Side, sideTree, Binding, meaningAfter, meaning}
-use Rattle.run.specs.Run.{Ground, permuted, top, valueOf, under, replacement, replaced, resolvedIn, resolved}
+use Rattle.run.specs.Run.{Ground, permuted, top, valueOf, under, replaced, resolvedIn, resolved}
 use Rattle.nominal.specs.Same.{Same}
 use Rattle.run.proofs.Same.{same-reflexive, same-symmetric, same-transitive, same-permute, same-substitute, same-equal}
 use Rattle.run.proofs.Trees.{Permuting, Fits, fits-under, tree-under, act-permuting, Shows, TopFits, top-shows, top-fits, NamedTree, named-substitute, named-side}
@@ -115,6 +113,10 @@ module _ {g : Ground} {variables : ℕ} {bs : List Binding} {σ : Substitution} 
   -- And the other way round: who takes each variable and its meaning for equal takes each bound variable and its value for equal.
   pub meant-lines : {∇ : Environment} (τ : Substitution) → Satisfies ∇ τ σ → Lines ∇ τ (g .nodes) bs
   meant-lines τ h X v e = equal-transitive (rw (m .worth X v e) at (h X)) (equal-symmetric (satisfies-tree τ σ h (sideTree (g .nodes) v)))
+
+  -- So bindings may be read as equations.
+  pub meant-equations : (∇ : Environment) (τ : Substitution) → Satisfies ∇ τ σ ↔ Lines ∇ τ (g .nodes) bs
+  meant-equations ∇ τ = (meant-lines τ, m .follows ∇ τ)
 
 -- ---- resolving
 

@@ -1,7 +1,7 @@
 -- What a step can do, once: document 01's cases read backwards. Every property of a step is proved from these, and not from its 36 pairs of forms.
 use Prim.Native.Nat.{ℕ, _<_}
 use native.Mathlib.Omega.{arith}
-use mathlib.Core.Path.{_≡_, refl, sym}
+use mathlib.Core.Path.{_≡_, refl}
 use mathlib.Core.Logic.{_≢_}
 use mathlib.Core.Bool.{Bool, true, false, cond}
 use mathlib.Core.List.{List, [], _∷_, map}
@@ -11,7 +11,7 @@ use Rattle.permutation.specs.Table.{Table, inverted, disagreement}
 use Rattle.nominal.specs.Tree.{substitute}
 use Rattle.problem.specs.Problem.{Form, unit-form, atom-form, abstraction-form, pair-form, application-form, suspension-form}
 use Rattle.run.specs.Meaning.{Side, sideTree, Binding, meaning, occursIn}
-use Rattle.run.specs.Run.{Ground, Subject, of-variable, of-side, top, under, resolved, Refusal, clash, inside, protection, Step, refuses, goes-on, done, bound, oneVariable, twoVariables, abstractions, leftVariable, againstUnit, againstAtom, againstAbstraction, againstPair, againstApplication, rule, step}
+use Rattle.run.specs.Run.{Ground, of-variable, of-side, top, under, resolved, clash, inside, protection, Step, refuses, goes-on, done, bound, oneVariable, twoVariables, abstractions, rule, step}
 use Rattle.run.proofs.Trees.{underSwap}
 
 -- Which of the six forms a top has, counted as the trees' forms are.

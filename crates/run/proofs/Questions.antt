@@ -1,16 +1,16 @@
 -- The run's two questions about trees answered as figure 2 has them: occurs, and fresh down to facts.
 use Prim.Native.Nat.{ℕ, _<_}
-use mathlib.Core.Path.{_≡_, refl, sym, _∙_, ap, subst}
-use mathlib.Core.Logic.{_≢_, _↔_, _⊎_, inl, inr}
+use mathlib.Core.Path.{_≡_, refl, sym, subst}
+use mathlib.Core.Logic.{_↔_, _⊎_, inl, inr}
 use mathlib.Core.Bool.{Bool, true, false, _||_, cond}
-use mathlib.Core.List.{List, [], _∷_, _++_}
+use mathlib.Core.List.{List, [], _∷_}
 use mathlib.Core.Option.{Option, none, some}
 use lib.Dec.{T, eqb}
 use borrow.Author.Tests.{eq-eqb, ne-eqb, eqb-true, eqb-false}
-use Rattle.permutation.specs.Swaps.{Swaps, act, inverse, Within}
+use Rattle.permutation.specs.Swaps.{inverse}
 use Rattle.permutation.proofs.Swaps.{by-eq, within, within-inverse}
-use Rattle.nominal.specs.Tree.{Tree, unit, atom, abstraction, pair, application, suspension, variable, Occurs, Substitution, substitute, composed}
-use Rattle.nominal.specs.Figure2.{Environment, _⊢_#_, #-unit}
+use Rattle.nominal.specs.Tree.{Tree, unit, atom, abstraction, pair, application, suspension, Occurs, Substitution, substitute, composed}
+use Rattle.nominal.specs.Figure2.{Environment, #-unit}
 use Rattle.nominal.specs.Solutions.{Every, Meets, Holds}
 use Rattle.nominal.proofs.Tree.{substitute-composed}
 use Rattle.nominal.proofs.Figure2.{fresh-atom, fresh-abstraction, fresh-pair, fresh-application}

@@ -1,18 +1,14 @@
 -- The laws of trees that are the same but for lists of swaps that send every atom alike: nothing that the run or figure 2 asks of a tree tells them
 -- apart.
-use Prim.Native.Nat.{ℕ, suc, _+_}
+use Prim.Native.Nat.{ℕ, suc}
 use mathlib.Core.Path.{_≡_, refl, sym, _∙_, ap}
-use mathlib.Core.Bool.{Bool, _||_}
-use mathlib.Core.List.{List, [], _∷_, _++_}
-use mathlib.Core.Option.{Option, none, some}
-use mathlib.Core.Bool.{cond}
-use lib.Dec.{eqb}
+use mathlib.Core.List.{_++_}
 use Rattle.permutation.specs.Swaps.{Swaps, act, inverse, Alike}
 use Rattle.permutation.proofs.Swaps.{act-append, inverse-act, act-inverse}
-use Rattle.nominal.specs.Tree.{Tree, unit, atom, abstraction, pair, application, suspension, variable, permute, size, Occurs, Substitution, substitute}
-use Rattle.nominal.specs.Figure2.{Environment, _⊢_#_, _⊢_≈_, ≈-unit, ≈-pair, ≈-function-symbol, ≈-abstraction-1, ≈-atom, ≈-suspension}
+use Rattle.nominal.specs.Tree.{Tree, unit, atom, abstraction, pair, application, suspension, permute, size, Occurs, Substitution, substitute}
+use Rattle.nominal.specs.Figure2.{Environment, _⊢_≈_, ≈-unit, ≈-pair, ≈-function-symbol, ≈-abstraction-1, ≈-atom, ≈-suspension}
 use Rattle.nominal.specs.Same.{Same, same-unit, same-atom, same-abstraction, same-pair, same-application, same-suspension}
-use Rattle.run.specs.Meaning.{occursIn, freshFor, both}
+use Rattle.run.specs.Meaning.{occursIn, freshFor}
 
 pub same-reflexive : (t : Tree) → Same t t
 same-reflexive unit = same-unit

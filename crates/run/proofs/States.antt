@@ -1,24 +1,23 @@
 -- What holds all through a run, from any state of which it holds: sides and demands have their names there, and the bindings have a meaning.
 use Prim.Native.Nat.{ℕ, zero, suc, _<_}
 use mathlib.Core.Path.{_≡_, refl, sym, _∙_, ap}
-use mathlib.Core.Logic.{_≢_, _↔_}
 use mathlib.Core.Bool.{Bool, true, false, true≢false}
 use mathlib.Core.List.{List, [], _∷_, _++_, map, append-nil, List·Memᴰ, List·Memᴰ·head, List·Memᴰ·tail}
-use mathlib.Core.Option.{none, some}
+use mathlib.Core.Option.{none}
 use lib.ListN.{length}
 use Rattle.permutation.specs.Table.{Table, inverted, disagreement}
 use Rattle.permutation.proofs.Table.{mem-disagreement}
-use Rattle.nominal.specs.Tree.{variable, Substitution, substitute, Occurs}
+use Rattle.nominal.specs.Tree.{variable, substitute}
 use Rattle.nominal.specs.Solutions.{Every}
-use Rattle.nominal.proofs.Solutions.{every-append, every-of, every-at}
+use Rattle.nominal.proofs.Solutions.{every-append}
 use Rattle.nominal.proofs.Tree.{occurs-permute, substitute-permute}
-use Rattle.problem.specs.Problem.{Form, unit-form, atom-form, abstraction-form, pair-form, application-form, suspension-form, Node, formAt, Equal, Problem}
+use Rattle.problem.specs.Problem.{Form, Node, formAt, Equal, Problem}
 use Rattle.problem.specs.Readable.{Named, Readable}
 use Rattle.run.specs.Meaning.{Side, sideTree, Binding, meaningAfter, meaning}
 use Rattle.run.specs.Run.{Equation, Subject, of-variable, of-side, Demand, Ground, top, valueOf, under, resolved, Step, refuses, goes-on, step, End, limit, refused, finished, pending, bindings, demands, next, run, equationsFrom}
 use Rattle.run.proofs.Same.{same-occurs, same-substitute}
 use Rattle.run.proofs.Trees.{Permuting, Fits, permuting-inverted, fits-under, fits-underSwap, fits-plain, tree-under-inverted, TopFits, top-fits}
-use Rattle.run.proofs.Did.{Did, step-did, NotOf, occursSide, two-units, same-atoms, same-abstractions, other-abstractions, two-pairs, same-symbols, one-variable, left-bound, right-bound, left-inside, right-inside, left-protected, right-protected, both-protected, different-forms, different-atoms, different-symbols}
+use Rattle.run.proofs.Did.{Did, step-did, occursSide, two-units, same-atoms, same-abstractions, other-abstractions, two-pairs, same-symbols, one-variable, left-bound, right-bound, left-inside, right-inside, left-protected, right-protected, both-protected, different-forms, different-atoms, different-symbols}
 use Rattle.run.proofs.Questions.{occursIn-false}
 use Rattle.run.proofs.Bindings.{valueOf-other, Settled, Meant, Sound, top-under, resolved-fits, meant-more, meaning-more, meant-none}
 

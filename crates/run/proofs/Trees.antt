@@ -1,23 +1,23 @@
 -- What the trees of nodes and sides are: a node's tree is built from its parts' trees, a side's top says what its tree is, and what the run does to
 -- a side's table it does to its tree. Over any number of atoms, and nodes whose names are there.
-use Prim.Native.Nat.{ℕ, zero, suc, _+_, _≤_, _<_}
-use native.Mathlib.Nat.{add-zero, add-suc, zero-add}
+use Prim.Native.Nat.{ℕ, zero, suc, _+_, _<_}
+use native.Mathlib.Nat.{add-zero, zero-add}
 use native.Mathlib.Omega.{arith}
 use mathlib.Core.Path.{_≡_, refl, sym, _∙_, ap}
 use mathlib.Core.List.{List, [], _∷_, _++_}
 use lib.ListN.{length, getD, length-append, List·getD-append, List·getD-eq-default}
-use Rattle.permutation.specs.Swaps.{Swaps, act, inverse, Alike, Within}
+use Rattle.permutation.specs.Swaps.{Swaps, act, inverse, Within}
 use Rattle.permutation.specs.Table.{Table, image, identity, after, inverted, ofSwaps, swappedAfter, Permutes, swapsOf}
 use Rattle.permutation.proofs.Swaps.{act-append, within, within-append}
-use Rattle.permutation.proofs.Table.{by-lt, length-identity, length-after, length-inverted, length-swappedAfter, length-ofSwaps, image-after, image-ofSwaps-within, permutes-identity, permutes-ofSwaps, permutes-after, permutes-inverted, permutes-swappedAfter, act-swapsOf, swapsOf-within, swapsOf-after, swapsOf-inverted, swapsOf-swappedAfter, swapsOf-identity}
-use Rattle.nominal.specs.Tree.{Tree, unit, atom, abstraction, pair, application, suspension, variable, permute, Substitution, substitute}
+use Rattle.permutation.proofs.Table.{length-identity, length-after, length-inverted, length-swappedAfter, length-ofSwaps, image-after, image-ofSwaps-within, permutes-identity, permutes-ofSwaps, permutes-after, permutes-inverted, permutes-swappedAfter, act-swapsOf, swapsOf-within, swapsOf-after, swapsOf-inverted, swapsOf-swappedAfter, swapsOf-identity}
+use Rattle.nominal.specs.Tree.{Tree, unit, atom, abstraction, pair, application, suspension, permute, Substitution, substitute}
 use Rattle.nominal.proofs.Tree.{permute-nil, permute-append}
 use Rattle.problem.specs.Problem.{Form, unit-form, atom-form, abstraction-form, pair-form, application-form, suspension-form, Node, formAt}
 use Rattle.problem.specs.Readable.{Named}
 use Rattle.run.specs.Meaning.{treeOf, treesAfter, tree, Side, sideTree}
 use Rattle.run.specs.Run.{Ground, permuted, top, under}
 use Rattle.nominal.specs.Same.{Same}
-use Rattle.run.proofs.Same.{same-reflexive, same-symmetric, same-transitive, same-permute, same-permuted}
+use Rattle.run.proofs.Same.{same-transitive, same-permute}
 
 -- ---- the trees of nodes
 

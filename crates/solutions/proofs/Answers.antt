@@ -1,34 +1,33 @@
 -- Demand 3: of every readable problem, an accepted answer's allowed instances are exactly the allowed solutions, and a problem refused with 9 to 12
 -- has none. And what follows from it: the answer solves the problem, its substitution done twice is itself, order and repetition do not matter.
-use Prim.Native.Nat.{ℕ, suc, _-_, _≤_, _<_}
+use Prim.Native.Nat.{ℕ, suc, _<_}
 use native.Mathlib.Omega.{arith}
-use mathlib.Core.Path.{_≡_, refl, sym, _∙_, ap}
-use mathlib.Core.Logic.{_≢_, _↔_, Iff·trans}
-use mathlib.Core.Bool.{Bool, true, false}
+use mathlib.Core.Path.{_≡_, refl}
+use mathlib.Core.Logic.{_↔_}
+use mathlib.Core.Bool.{Bool, true}
 use mathlib.Core.List.{List, [], _∷_, _++_, map, List·Memᴰ, List·Memᴰ·head, List·Memᴰ·tail}
 use mathlib.Core.Option.{Option, none, some}
 use lib.ListN.{length}
-use Rattle.permutation.proofs.Table.{by-lt}
-use Rattle.nominal.specs.Tree.{Tree, variable, Occurs, Substitution, substitute, composed}
-use Rattle.nominal.specs.Figure2.{Environment, _⊢_#_, _⊢_≈_}
-use Rattle.nominal.specs.Solutions.{Every, Facts, given, Allowance, Allowed, Meets, Equates, Solves, Answer, Holds, Instance, EquallyGeneral, Answers, Satisfies, Idempotent, Unbound}
+use Rattle.nominal.specs.Tree.{variable, Occurs, Substitution, substitute, composed}
+use Rattle.nominal.specs.Figure2.{Environment}
+use Rattle.nominal.specs.Solutions.{Every, given, Allowance, Meets, Equates, Solves, Holds, Satisfies, Idempotent, Unbound}
 use Rattle.nominal.proofs.Tree.{permute-nil}
 use Rattle.nominal.proofs.Laws.{equal-reflexive, equal-symmetric}
-use Rattle.nominal.proofs.Solutions.{every-at, every-of, every-append, every-map, meets-equal, own-instance, instance-exactly, protecting-variable, solves-among, answers-equally-general}
+use Rattle.nominal.proofs.Solutions.{every-of, every-append, every-map, meets-equal, instance-exactly}
 use Rattle.problem.specs.Problem.{Node, Equal, Fresh, Assumed, Problem}
 use Rattle.problem.specs.Readable.{Readable}
-use Rattle.run.specs.Meaning.{Side, Binding, Fact, tree, sideTree, meaning, freshFor}
-use Rattle.run.specs.Run.{Equation, Subject, of-variable, of-side, Demand, Ground, valueOf, Step, goes-on, step, among, End, limit, refused, finished, pending, bindings, demands, run, groundOf, runOf, equationsFrom}
-use Rattle.run.specs.Answer.{Asked, subjectTree, askedFresh, askedAssumed, askedRaised, resolvedAll, facts, Verdict, accepted, refusal, concluded, verdictOf}
+use Rattle.run.specs.Meaning.{Side, Binding, Fact, tree, meaning, freshFor}
+use Rattle.run.specs.Run.{Equation, Subject, of-variable, of-side, Demand, Ground, valueOf, goes-on, step, among, End, limit, refused, finished, pending, bindings, demands, run, groundOf, runOf, equationsFrom}
+use Rattle.run.specs.Answer.{Asked, subjectTree, askedFresh, askedAssumed, askedRaised, resolvedAll, facts, concluded, verdictOf}
 use Rattle.run.proofs.Trees.{NamedTree, named-node, named-side, named-substitute, tree-plain}
 use Rattle.run.proofs.Same.{same-symmetric}
 use Rattle.run.proofs.Questions.{Each, Wherever, wherever-map, resolvedAll-holds, freshFor-occurs, freshFor-named, resolvedAll-wherever, NamedFact}
 use Rattle.run.proofs.Facts.{among-true, every-facts}
 use Rattle.run.proofs.Bindings.{by-value, Meant, meant-idempotent, meant-gone}
 use Rattle.run.proofs.States.{SubjectFits, DemandFits, State, groundWith, meaning-none, start, AtEnd, run-end, state-next, step-keeps, unbound-next, Keeps}
-use Rattle.solutions.specs.Promises.{asked, IsProtected, allowance, answerOf, Unsolvable, Promised, SameDemands, Agree}
+use Rattle.solutions.specs.Promises.{asked, IsProtected, allowance, answerOf, Promised}
 use Rattle.solutions.proofs.Step.{equates-same}
-use Rattle.solutions.proofs.Run.{WaitingEqual, RaisedMeet, Satisfied, LeavesAlone, Right, run-right}
+use Rattle.solutions.proofs.Run.{WaitingEqual, RaisedMeet, Satisfied, Right, run-right}
 
 pub every-mapped : {A B : Type 0} (P : B → Type 0) (f : A → B) (l : List A) → Every P (map f l) ↔ Every (λ x. P (f x)) l
 every-mapped P f [] = (λ h. h, λ h. h)
@@ -173,17 +172,13 @@ module _ (p : Problem) (r : Readable p) {es : List Equation} {bs : List Binding}
   )
 
 -- Demand 3, over any allowance whose substitutions leave protected variables as they are.
-abbrev pub PromisedOver : Allowance → Problem → Verdict → Type 0
-PromisedOver A p (accepted steps bs fs) = Answers A (asked p) (answerOf p bs fs)
-PromisedOver A p (refusal n o) = 9 ≤ n → n ≤ 12 → (F : Facts) (τ : Substitution) → Allowed A F τ → Solves (given F) τ (asked p) → ⊥
-
 module _ (p : Problem) (r : Readable p) (A : Allowance) (leaves : (τ : Substitution) → A .allowsSubstitution τ → (X : ℕ) → IsProtected p X → τ X ≡ variable X) where
   abbrev Allows : Environment → Substitution → Type 0
   Allows ∇ τ = A .allowsSubstitution τ
 
   concluded-promised : (k : ℕ) (bs : List Binding) → Idempotent (meaning (p .nodes) bs) → (o : Option (List Fact))
       → ((∇ : Environment) (τ : Substitution) → Allows ∇ τ → Solves ∇ τ (asked p) ↔ (Satisfies ∇ τ (meaning (p .nodes) bs) × Each (Holds ∇ τ) o))
-      → Wherever (NamedFact (p .atoms) (p .variables)) o → Wherever (Unbound (meaning (p .nodes) bs)) o → PromisedOver A p (concluded p k bs o)
+      → Wherever (NamedFact (p .atoms) (p .variables)) o → Wherever (Unbound (meaning (p .nodes) bs)) o → Promised A p (concluded p k bs o)
   concluded-promised k bs once none x n u = λ l h F τ a s. x (given F) τ (a .1) .0 s .1
   concluded-promised k bs once (some fs) x n u = λ F τ a.
       let i = instance-exactly A {∇ = given F} τ (answerOf p bs (facts p fs)) once (a .1) (every-facts p (Unbound (meaning (p .nodes) bs)) fs n .0 u) in
@@ -192,7 +187,7 @@ module _ (p : Problem) (r : Readable p) (A : Allowance) (leaves : (τ : Substitu
       (λ s. let j = y .0 s in i .0 (j .0, e .0 (j .1)), λ j. let h = i .1 j in y .1 (h .0, e .1 (h .1)))
 
   verdict-promised : (x : End) → Right (groundOf p) (p .variables) (r .named-nodes) Allows (λ ∇ τ. Satisfied (p .nodes) ∇ τ (equationsFrom (p .atoms) 0 (p .equations)) [] []) x → AtEnd (Kept p r (listed p)) x
-      → PromisedOver A p (verdictOf p x)
+      → Promised A p (verdictOf p x)
   unfolding verdictOf
   verdict-promised (limit n) y s = λ h k. absurd (omega arith)
   verdict-promised (refused c n) y s = λ h k F τ a e. y (given F) τ (a .1) (started p (given F) τ .1 (e .1))
@@ -203,7 +198,7 @@ module _ (p : Problem) (r : Readable p) (A : Allowance) (leaves : (τ : Substitu
       (facts-named p (listed p) m (askedAll p ds) (asks-named p r (listed p) ds (s .0 .raised)))
       (facts-unbound p (listed p) m (askedAll p ds))
 
-  pub promised-over : PromisedOver A p (verdictOf p (runOf p))
+  pub promised-over : Promised A p (verdictOf p (runOf p))
   unfolding runOf
   promised-over =
       verdict-promised (run (groundOf p) (p .limit) (equationsFrom (p .atoms) 0 (p .equations)) [] [])
@@ -212,9 +207,5 @@ module _ (p : Problem) (r : Readable p) (A : Allowance) (leaves : (τ : Substitu
       (run-kept p r (listed p))
 
 -- Demand 3.
-pub promised : (p : Problem) → Readable p → Promised p (verdictOf p (runOf p))
-promised p r = by-verdict (verdictOf p (runOf p)) (promised-over p r (allowance p) (λ τ a. a .1))
-  where
-    by-verdict : (v : Verdict) → PromisedOver (allowance p) p v → Promised p v
-    by-verdict (accepted steps bs fs) h = h
-    by-verdict (refusal n o) h = h
+pub promised : (p : Problem) → Readable p → Promised (allowance p) p (verdictOf p (runOf p))
+promised p r = promised-over p r (allowance p) (λ τ a. a .1)

@@ -2,17 +2,17 @@
 -- or listed twice are accepted or refused alike, with equally general answers; and the same said of the solver from bytes to result.
 use Prim.Native.Nat.{ℕ, _≤_}
 use native.Mathlib.Omega.{arith}
-use mathlib.Core.Path.{_≡_, refl, sym, _∙_, ap}
-use mathlib.Core.Logic.{_≢_, _↔_, _⊎_, inl, inr}
-use mathlib.Core.Bool.{Bool, true, false, cond}
-use mathlib.Core.List.{List, []}
+use mathlib.Core.Path.{_≡_, refl}
+use mathlib.Core.Logic.{_↔_, _⊎_, inl, inr}
+use mathlib.Core.Bool.{Bool, true, false}
+use mathlib.Core.List.{List}
 use mathlib.Core.Option.{Option, none, some}
 use lib.ListN.{length}
 use lib.Dec.{leb}
 use Rattle.permutation.proofs.Swaps.{by-eq}
 use Rattle.field.specs.Field.{Bytes}
 use Rattle.nominal.specs.Tree.{Substitution}
-use Rattle.nominal.specs.Solutions.{Every, Facts, given, Allowed, Solves, Instance, Answers, Idempotent, Unbound}
+use Rattle.nominal.specs.Solutions.{Facts, given, Allowed, Solves, Idempotent, Unbound}
 use Rattle.nominal.proofs.Solutions.{own-instance, protecting-variable, solves-among}
 use Rattle.problem.specs.Problem.{Problem}
 use Rattle.problem.specs.Readable.{Readable}
@@ -43,7 +43,7 @@ module _ (p : Problem) (r : Readable p) where
   number-run protection = (omega arith, omega arith)
 
   concluded-proper : (k : ℕ) (bs : List Binding) → ((fs : Facts) → Allowed (allowance p) fs (meaning (p .nodes) bs)) → Idempotent (meaning (p .nodes) bs) → (o : Option (List Fact))
-      → Wherever (NamedFact (p .atoms) (p .variables)) o → Wherever (Unbound (meaning (p .nodes) bs)) o → Promised p (concluded p k bs o) → ProperVerdict p (concluded p k bs o)
+      → Wherever (NamedFact (p .atoms) (p .variables)) o → Wherever (Unbound (meaning (p .nodes) bs)) o → Promised (allowance p) p (concluded p k bs o) → ProperVerdict p (concluded p k bs o)
   concluded-proper k bs a once none n u h = (omega arith, omega arith)
   concluded-proper k bs a once (some fs) n u h = record {
     solves = h (facts p fs) (meaning (p .nodes) bs) (a (facts p fs)) .1 (own-instance (allowance p) (protecting-variable (IsProtected p)) (answerOf p bs (facts p fs)));
@@ -52,7 +52,7 @@ module _ (p : Problem) (r : Readable p) where
     unbound = every-facts p (Unbound (meaning (p .nodes) bs)) fs n .0 u;
   }
 
-  verdict-proper : (x : End) → AtEnd (Kept p r (listed p)) x → Promised p (verdictOf p x) → ProperVerdict p (verdictOf p x)
+  verdict-proper : (x : End) → AtEnd (Kept p r (listed p)) x → Promised (allowance p) p (verdictOf p x) → ProperVerdict p (verdictOf p x)
   unfolding verdictOf
   verdict-proper (limit n) s h = (omega arith, omega arith)
   verdict-proper (refused c n) s h = number-run c
@@ -79,13 +79,13 @@ module _ (p q : Problem) (s : SameDemands p q) where
     solves-among (given F) τ (asked q) (asked p) (λ d m. s .demands d .0 m) (λ e m. s .equations e .0 m),
   )
 
-  unsolvable-same : Unsolvable q → (F : Facts) (τ : Substitution) → Allowed (allowance p) F τ → Solves (given F) τ (asked p) → ⊥
+  unsolvable-same : Unsolvable (allowance q) q → Unsolvable (allowance p) p
   unsolvable-same u F τ a h = u F τ (tt, allowed-same τ .0 (a .1)) (solves-same F τ .0 h)
 
-  unsolvable-back : Unsolvable p → (F : Facts) (τ : Substitution) → Allowed (allowance q) F τ → Solves (given F) τ (asked q) → ⊥
+  unsolvable-back : Unsolvable (allowance p) p → Unsolvable (allowance q) q
   unsolvable-back u F τ a h = u F τ (tt, allowed-same τ .1 (a .1)) (solves-same F τ .1 h)
 
-  agree-verdicts : (v w : Verdict) → Promised p v → Promised q w → ProperVerdict p v → ProperVerdict q w → Agree p q v w
+  agree-verdicts : (v w : Verdict) → Promised (allowance p) p v → Promised (allowance q) q w → ProperVerdict p v → ProperVerdict q w → Agree p q v w
   agree-verdicts (accepted k bs fs) (accepted l cs gs) h i a b = λ F τ y. (
     λ n. let j = i F τ (tt, allowed-same τ .0 (y .1)) .0 (solves-same F τ .0 (h F τ y .1 n)) in (j .0, allowed-same (j .0) .1 (j .1), j .2, j .3),
     λ n. h F τ y .0 (solves-same F τ .1 (i F τ (tt, allowed-same τ .0 (y .1)) .1 (n .0, allowed-same (n .0) .0 (n .1), n .2, n .3))),
@@ -119,7 +119,7 @@ unread-number n (inl e) h k = omega arith
 unread-number n (inr e) h k = omega arith
 
 module _ (input output : List ℕ) where
-  tells-verdict : (p : Problem) → reading baseTags input ≡ read p → (v : Verdict) → Promised p v → ProperVerdict p v → Tells input output (result v output)
+  tells-verdict : (p : Problem) → reading baseTags input ≡ read p → (v : Verdict) → Promised (allowance p) p v → ProperVerdict p v → Tells input output (result v output)
   unfolding result
   tells-verdict p e (accepted steps bs fs) h a = (
     λ n. record { problem = p; steps = steps; bindings = bs; facts = fs; reads = e; writes = refl; answers = h; proper = a },

@@ -1,28 +1,28 @@
 -- Demand 2, the judge: with all variables protected the only allowed substitution leaves every variable as it is, so that the run keeps what figure 2
 -- derives. The judge gives 0 exactly when figure 2 derives every equation and every freshness field from the assumptions, unless it gives 8.
-use Prim.Native.Nat.{ℕ, _≤_}
+use Prim.Native.Nat.{ℕ}
 use native.Mathlib.Omega.{arith}
-use mathlib.Core.Path.{_≡_, refl, sym, _∙_, ap}
-use mathlib.Core.Logic.{_≢_, _↔_, _⊎_, inl, inr, Iff·trans}
+use mathlib.Core.Path.{_≡_, refl, sym, _∙_}
+use mathlib.Core.Logic.{_↔_, _⊎_, inl, inr}
 use mathlib.Core.Bool.{Bool, true, false, cond, true≢false}
-use mathlib.Core.List.{List, [], _∷_, _++_, map, List·Memᴰ}
+use mathlib.Core.List.{List, [], _++_, List·Memᴰ}
 use mathlib.Core.Option.{Option, none, some}
 use Rattle.field.specs.Field.{Bytes}
-use Rattle.nominal.specs.Tree.{variable, Substitution, substitute}
+use Rattle.nominal.specs.Tree.{variable, Substitution}
 use Rattle.nominal.specs.Figure2.{Environment, _⊢_#_, _⊢_≈_}
 use Rattle.nominal.specs.Solutions.{Every, given, Meets, Equates, Holds, Satisfies}
 use Rattle.nominal.proofs.Tree.{substitute-variable}
 use Rattle.nominal.proofs.Figure2.{fresh-suspension}
 use Rattle.nominal.proofs.Laws.{equal-reflexive}
 use Rattle.nominal.proofs.Solutions.{every-map, every-append}
-use Rattle.problem.specs.Problem.{Problem, Assumed}
+use Rattle.problem.specs.Problem.{Assumed, Problem}
 use Rattle.problem.specs.Readable.{Readable}
 use Rattle.problem.specs.Reader.{Reading, read, reading, baseTags, refused as unread}
 use Rattle.problem.proofs.Readable.{readable}
 use Rattle.problem.proofs.Numbers.{OneToSeven, reading-number}
 use Rattle.run.specs.Meaning.{Binding, Fact, tree, meaning}
 use Rattle.run.specs.Run.{Demand, End, limit, refused, finished, run, equationsFrom}
-use Rattle.run.specs.Answer.{Asked, subjectTree, askedFresh, askedRaised, resolvedAll, judgedRun, assumedFacts, allAmong, Judgement, holdsFrom, judgementOf, judgementRead, judge}
+use Rattle.run.specs.Answer.{subjectTree, askedFresh, askedRaised, resolvedAll, judgedRun, assumedFacts, allAmong, Judgement, holdsFrom, judgementOf, judgementRead, judge}
 use Rattle.run.proofs.Questions.{Each}
 use Rattle.run.proofs.Facts.{allAmong-true}
 use Rattle.run.proofs.States.{AtEnd, start, groundWith}
@@ -121,6 +121,24 @@ module _ (p : Problem) where
         end-judged (run (groundWith p all) (p .limit) (equationsFrom (p .atoms) 0 (p .equations)) [] [])
         (run-right (groundWith p all) (p .variables) (r .named-nodes) Still (p .limit) (equationsFrom (p .atoms) 0 (p .equations)) [] [] (start p r all) (λ ∇ τ a X y e. a X))
         (run-kept p r all)
+
+-- 0, 8 or 14, and a place only with 8.
+abbrev pub JudgeNumber : Judgement → Type 0
+JudgeNumber j = (j ≡ (0, 0)) ⊎ ((j ≡ (14, 0)) ⊎ (j .0 ≡ 8))
+
+holds-number : (ds : List Assumed) (o : Option (List Fact)) → JudgeNumber (holdsFrom ds o)
+holds-number ds none = inr (inl refl)
+holds-number ds (some fs) = by-among (allAmong (assumedFacts ds) fs)
+  where
+    by-among : (b : Bool) → JudgeNumber (cond b (0, 0) (14, 0))
+    by-among true = inl refl
+    by-among false = inr (inl refl)
+
+pub judge-number : (p : Problem) (x : End) → JudgeNumber (judgementOf p x)
+unfolding judgementOf
+judge-number p (limit n) = inr (inr refl)
+judge-number p (refused c n) = inr (inl refl)
+judge-number p (finished k bs ds) = holds-number (p .assumptions) (resolvedAll (meaning (p .nodes) bs) (askedFresh (p .nodes) (p .freshness) ++ askedRaised (p .nodes) ds))
 
 -- ---- from bytes
 

@@ -1,13 +1,13 @@
 -- The run keeps the solutions. Over any allowed pairs that leave alone what is protected and unbound at the start, and any bindings that have a
 -- meaning: a run that is finished has exactly the solutions that it started with, and one that refuses started with none.
 use Prim.Native.Nat.{ℕ, zero, suc}
-use mathlib.Core.Path.{_≡_, refl, sym, _∙_, ap}
+use mathlib.Core.Path.{_≡_, refl}
 use mathlib.Core.Logic.{_↔_}
 use mathlib.Core.Bool.{true}
 use mathlib.Core.List.{List, [], _∷_, _++_, append-nil}
 use mathlib.Core.Option.{none}
 use Rattle.nominal.specs.Tree.{variable, Substitution, substitute}
-use Rattle.nominal.specs.Figure2.{Environment, _⊢_≈_}
+use Rattle.nominal.specs.Figure2.{Environment}
 use Rattle.nominal.specs.Solutions.{Every, Satisfies}
 use Rattle.nominal.proofs.Tree.{permute-nil}
 use Rattle.nominal.proofs.Laws.{equal-symmetric, equal-transitive}

@@ -4,25 +4,24 @@ use Prim.Native.Nat.{ℕ, _<_}
 use native.Mathlib.Omega.{arith}
 use mathlib.Core.Path.{_≡_, refl, sym, _∙_, ap}
 use mathlib.Core.Logic.{_≢_, _↔_, Iff·trans}
-use mathlib.Core.Bool.{Bool, true, false}
-use mathlib.Core.List.{List, [], _∷_, _++_, map, List·Memᴰ, List·Memᴰ·head, List·Memᴰ·tail}
-use mathlib.Core.Option.{none, some}
+use mathlib.Core.Bool.{true}
+use mathlib.Core.List.{List, [], _∷_, map, List·Memᴰ, List·Memᴰ·head, List·Memᴰ·tail}
+use mathlib.Core.Option.{none}
 use lib.ListN.{length}
-use Rattle.permutation.specs.Swaps.{Swaps, act, inverse, Disagree, Alike}
+use Rattle.permutation.specs.Swaps.{Swaps, act, inverse, Disagree}
 use Rattle.permutation.specs.Table.{Table, image, inverted, disagreement, swapsOf}
 use Rattle.permutation.proofs.Table.{by-lt, image-out, mem-disagreement}
-use Rattle.nominal.specs.Tree.{Tree, unit, atom, abstraction, pair, application, suspension, variable, permute, Occurs, Substitution, substitute}
+use Rattle.nominal.specs.Tree.{Tree, suspension, variable, permute, Occurs, Substitution, substitute}
 use Rattle.nominal.specs.Form.{form}
-use Rattle.nominal.specs.Figure2.{Environment, _⊢_#_, _⊢_≈_, ≈-unit, ≈-atom}
+use Rattle.nominal.specs.Figure2.{Environment, ≈-unit, ≈-atom}
 use Rattle.nominal.specs.Solutions.{Every, Meets, Equates, Satisfies}
-use Rattle.nominal.proofs.Tree.{permute-nil}
 use Rattle.nominal.proofs.Laws.{equal-symmetric, equal-transitive}
-use Rattle.nominal.proofs.Solutions.{every-at, every-of, satisfies-tree}
-use Rattle.nominal.proofs.Steps.{form-substitute, step-exchange, step-pair, step-application, step-abstraction-same, step-abstraction-other, step-suspension, step-variable, occurs-refused, forms-refused, atoms-refused, symbols-refused, protected-refused, two-protected-refused}
+use Rattle.nominal.proofs.Solutions.{satisfies-tree}
+use Rattle.nominal.proofs.Steps.{step-pair, step-application, step-abstraction-same, step-abstraction-other, step-suspension, step-variable, occurs-refused, forms-refused, atoms-refused, symbols-refused, protected-refused, two-protected-refused}
 use Rattle.problem.specs.Problem.{Form, unit-form, atom-form, abstraction-form, pair-form, application-form, suspension-form, Node, formAt}
 use Rattle.problem.specs.Readable.{Named}
 use Rattle.run.specs.Meaning.{Side, sideTree, Binding, meaning}
-use Rattle.run.specs.Run.{Ground, Subject, of-variable, of-side, top, valueOf, under, resolved, Step, refuses, goes-on, step}
+use Rattle.run.specs.Run.{Ground, Subject, of-variable, valueOf, under, resolved, Step, refuses, goes-on, step}
 use Rattle.run.specs.Answer.{subjectTree}
 use Rattle.nominal.specs.Same.{Same}
 use Rattle.run.proofs.Same.{same-symmetric, same-transitive, same-permute, same-substitute, same-equal, alike-inverse}

@@ -3,9 +3,9 @@
 use Prim.Native.Nat.{ℕ, _≤_}
 use mathlib.Core.Path.{_≡_}
 use mathlib.Core.Logic.{_≢_, _↔_}
-use mathlib.Core.List.{List, [], _∷_, _++_, map, List·Memᴰ}
+use mathlib.Core.List.{List, _++_, map, List·Memᴰ}
 use Rattle.nominal.specs.Tree.{Substitution}
-use Rattle.nominal.specs.Figure2.{Environment, _⊢_#_, _⊢_≈_}
+use Rattle.nominal.specs.Figure2.{_⊢_#_, _⊢_≈_}
 use Rattle.nominal.specs.Solutions.{Every, Facts, given, Allowance, Allowed, protecting, Demand, Equation, Solves, Answer, EquallyGeneral, Answers, Idempotent, Unbound, Problem as TreeProblem}
 use Rattle.problem.specs.Problem.{Problem}
 use Rattle.run.specs.Meaning.{Fact, tree, Binding, meaning}
@@ -31,13 +31,13 @@ abbrev pub answerOf : Problem → List Binding → List Fact → Answer
 answerOf p bs fs = record { facts = fs; substitution = meaning (p .nodes) bs }
 
 -- No allowed pair solves the problem.
-abbrev pub Unsolvable : Problem → Type 0
-Unsolvable p = (F : Facts) (τ : Substitution) → Allowed (allowance p) F τ → Solves (given F) τ (asked p) → ⊥
+abbrev pub Unsolvable : Allowance → Problem → Type 0
+Unsolvable A p = (F : Facts) (τ : Substitution) → Allowed A F τ → Solves (given F) τ (asked p) → ⊥
 
 -- Demand 3, of a verdict: accepted, the allowed solutions are exactly the allowed instances of the answer; refused with 9 to 12, there is none.
-abbrev pub Promised : Problem → Verdict → Type 0
-Promised p (accepted steps bs fs) = Answers (allowance p) (asked p) (answerOf p bs fs)
-Promised p (refusal n o) = 9 ≤ n → n ≤ 12 → Unsolvable p
+abbrev pub Promised : Allowance → Problem → Verdict → Type 0
+Promised A p (accepted steps bs fs) = Answers A (asked p) (answerOf p bs fs)
+Promised A p (refusal n o) = 9 ≤ n → n ≤ 12 → Unsolvable A p
 
 -- An accepted answer by itself: it solves its problem, it is allowed, and its substitution done twice is itself; each of its facts is about an
 -- unbound variable.
@@ -82,7 +82,7 @@ pub record Accepts (input output : List ℕ) (r : Result) : Type 0 where
 pub record Refuses (input : List ℕ) : Type 0 where
   pub problem : Problem
   pub reads : reading baseTags input ≡ read problem
-  pub unsolvable : Unsolvable problem
+  pub unsolvable : Unsolvable (allowance problem) problem
 
 -- "0 exactly when" it does, unless 8.
 abbrev pub Judged : Problem → Judgement → Type 0
