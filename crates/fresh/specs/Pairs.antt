@@ -1,0 +1,60 @@
+-- What resolving the demands looks at: pairs of an atom and a node, and pairs of an atom and a variable. 003's freshness rules, read from the
+-- conclusion to the premiss, lead from pair to pair; each pair is looked at once, however many ways lead to it. Definitions alone.
+use Prim.Native.Nat.{ℕ, _<_}
+use mathlib.Core.Path.{_≡_}
+use mathlib.Core.Logic.{_≢_, _↔_}
+use mathlib.Core.List.{List, List·Memᴰ}
+use mathlib.Core.Option.{Option, some}
+use Rattle.permutation.specs.Swaps.{Swaps, act, inverse}
+use Rattle.permutation.specs.Table.{image, inverted}
+use Rattle.nominal.specs.Tree.{permute, variable}
+use Rattle.nominal.specs.Solutions.{Every}
+use Rattle.problem.specs.Problem.{Node, atom-form, abstraction-form, pair-form, application-form, suspension-form, formAt}
+use Rattle.run.specs.Meaning.{Side, tree}
+use Rattle.run.specs.Answer.{Asked}
+
+-- An atom is to be fresh for a node, for a variable: the atom first.
+pub data Pair : Type 0 where
+  of-node : ℕ → ℕ → Pair
+  of-variable : ℕ → ℕ → Pair
+
+-- "a is fresh .. for a pair or application if for its parts, for [a]t always, for [b]t if for t, and for a suspension if the atom sent to a is
+-- fresh for its variable"; and for a bound variable if for its value.
+pub data Leads (nodes : List Node) (value : ℕ → Option Side) : Pair → Pair → Type 0 where
+  to-body : {a b n m : ℕ} → formAt nodes n ≡ abstraction-form b m → a ≢ b → Leads nodes value (of-node a n) (of-node a m)
+  to-argument : {a f n m : ℕ} → formAt nodes n ≡ application-form f m → Leads nodes value (of-node a n) (of-node a m)
+  to-left : {a n l r : ℕ} → formAt nodes n ≡ pair-form l r → Leads nodes value (of-node a n) (of-node a l)
+  to-right : {a n l r : ℕ} → formAt nodes n ≡ pair-form l r → Leads nodes value (of-node a n) (of-node a r)
+  to-variable : {a n X : ℕ} {π : Swaps} → formAt nodes n ≡ suspension-form π X → Leads nodes value (of-node a n) (of-variable (act (inverse π) a) X)
+  to-value : {a X : ℕ} {v : Side} → value X ≡ some v → Leads nodes value (of-variable a X) (of-node (image (inverted (v .images)) a) (v .node))
+
+-- The pairs that the rules lead to from the pairs S.
+pub data Reached (nodes : List Node) (value : ℕ → Option Side) (S : Pair → Type 0) : Pair → Type 0 where
+  start : {w : Pair} → S w → Reached nodes value S w
+  further : {v w : Pair} → Reached nodes value S v → Leads nodes value v w → Reached nodes value S w
+
+-- All that the pair leads to is marked.
+abbrev pub Closed : List Node → (ℕ → Option Side) → (Pair → Type 0) → Pair → Type 0
+Closed nodes value Mark v = (w : Pair) → Leads nodes value v w → Mark w
+
+-- "A demand that ends at an atom fresh for itself."
+abbrev pub Clashing : List Node → (Pair → Type 0) → Type 0
+Clashing nodes Mark = (a n : ℕ) × Mark (of-node a n) × (formAt nodes n ≡ atom-form a)
+
+-- What is marked in the end is exactly what the demands S lead to, and r says whether one of them ends at an atom fresh for itself.
+pub record Resolved (nodes : List Node) (value : ℕ → Option Side) (S Mark : Pair → Type 0) (clashes : Type 0) : Type 0 where
+  pub has : (w : Pair) → S w → Mark w
+  pub from : (w : Pair) → Mark w → Reached nodes value S w
+  pub closed : (w : Pair) → Mark w → Closed nodes value Mark w
+  pub verdict : clashes ↔ Clashing nodes Mark
+
+-- The pair that a demand is asked as: an atom fresh for a variable itself; an atom fresh for a node's tree under swaps as the atom sent to it fresh
+-- for the node.
+abbrev pub AskedAs : List Node → Asked → Pair → Type 0
+AskedAs nodes d (of-node b n) = (π : Swaps) × (d .1 ≡ permute π (tree nodes n)) × (b ≡ act (inverse π) (d .0))
+AskedAs nodes d (of-variable b X) = (d .1 ≡ variable X) × (b ≡ d .0)
+
+-- The pairs S are those that the demands are asked as.
+pub record Asks (nodes : List Node) (asked : List Asked) (S : Pair → Type 0) : Type 0 where
+  pub all : (d : Asked) → List·Memᴰ d asked → (w : Pair) × S w × AskedAs nodes d w
+  pub only : (w : Pair) → S w → (d : Asked) × List·Memᴰ d asked × AskedAs nodes d w

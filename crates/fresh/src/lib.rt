@@ -1,0 +1,1 @@
+// Resolving the demands of a finished run.
