@@ -15,7 +15,7 @@ use Rattle.permutation.proofs.Swaps.{by-eq}
 use Rattle.nominal.specs.Tree.{Tree, suspension, variable, Occurs, Substitution, substitute, composed, replacing}
 use Rattle.nominal.specs.Figure2.{Environment, _⊢_≈_}
 use Rattle.nominal.specs.Solutions.{Satisfies, Idempotent}
-use Rattle.nominal.proofs.Tree.{permute-nil, substitute-permute, substitute-variable, substitute-composed, substitute-agree, occurs-substitute}
+use Rattle.nominal.proofs.Tree.{permute-nil, substitute-permute, substitute-variable, substitute-composed, substitute-agree, occurs-substitute, occurs-substituted}
 use Rattle.nominal.proofs.Laws.{equal-symmetric, equal-transitive, equal-reflexive}
 use Rattle.nominal.proofs.Solutions.{satisfies-tree}
 use Rattle.nominal.proofs.Replacing.{replacing-same, replacing-other, replacing-absent, extended-same, extended-other, extended-tree, extended-satisfied}
@@ -25,6 +25,7 @@ use Rattle.run.specs.Meaning.{Side, sideTree, Binding, meaningAfter, mea
 use Rattle.run.specs.Run.{Ground, permuted, top, valueOf, under, replaced, resolvedIn, resolved}
 use Rattle.nominal.specs.Same.{Same}
 use Rattle.run.proofs.Same.{same-reflexive, same-symmetric, same-transitive, same-permute, same-substitute, same-equal}
+use Rattle.run.proofs.Did.{kind, Root, suspended, otherwise, root, not-of}
 use Rattle.run.proofs.Trees.{Permuting, Fits, fits-under, tree-under, act-permuting, Shows, TopFits, top-shows, top-fits, NamedTree, named-substitute, named-side}
 
 -- ---- the value of a variable
@@ -87,6 +88,8 @@ pub record Meant (g : Ground) (variables : ℕ) (bs : List Binding) (σ : Substi
   pub worth : (X : ℕ) (v : Side) → valueOf bs X ≡ some v → σ X ≡ substitute σ (sideTree (g .nodes) v)
   pub gone : (X Y : ℕ) → Occurs Y (σ X) → valueOf bs Y ≡ none
   pub named : (X : ℕ) → X < variables → NamedTree (g .atoms) variables (σ X)
+  -- "No value contains its own variable."
+  pub apart : (X : ℕ) (v : Side) → valueOf bs X ≡ some v → Occurs X (sideTree (g .nodes) v) → ⊥
   -- As often as there are bindings is enough to resolve a side.
   pub settles : (s : Side) → Settled bs (top g (resolved g bs s))
   -- Who takes each bound variable and its value for equal takes each variable and its meaning for equal.
@@ -133,73 +136,70 @@ top-under g P v R Z = by-form (formAt (g .nodes) (v .node))
     by-form (application-form h n) e = ([], cc)
     by-form (suspension-form π X) e = (after (v .images) (ofSwaps (g .atoms) π), ap (suspension-form (after (v .images) (ofSwaps (g .atoms) π))) (cc))
 
+-- Only a suspension is replaced.
+replaced-other : (bs : List Binding) (s : Side) (onward : Side → Side) (w : Form Table Side) → kind w ≢ 5 → replaced bs s w onward ≡ s
+replaced-other bs s onward unit-form n = refl
+replaced-other bs s onward (atom-form a) n = refl
+replaced-other bs s onward (abstraction-form a t) n = refl
+replaced-other bs s onward (pair-form t u) n = refl
+replaced-other bs s onward (application-form f t) n = refl
+replaced-other bs s onward (suspension-form P X) n = absurd (n refl)
+
+settled-other : (bs : List Binding) (w : Form Table Side) → kind w ≢ 5 → Settled bs w
+settled-other bs w n P X e = absurd (not-of X w n P e)
+
 module _ (g : Ground) (bs : List Binding) where
   -- One replacement keeps R, so resolving does.
   module _ (R : Side → Type 0) (once : (s : Side) (P : Table) (X : ℕ) (v : Side) → R s → top g s ≡ suspension-form P X → valueOf bs X ≡ some v → R (under P v)) where
-    replaced-keeps : (s : Side) → R s → (onward : Side → Side) → ((t : Side) → R t → R (onward t)) → (w : Form Table Side) → top g s ≡ w → R (replaced bs s w onward)
-    replaced-keeps s r onward k unit-form e = r
-    replaced-keeps s r onward k (atom-form a) e = r
-    replaced-keeps s r onward k (abstraction-form a t) e = r
-    replaced-keeps s r onward k (pair-form t u) e = r
-    replaced-keeps s r onward k (application-form f t) e = r
-    replaced-keeps s r onward k (suspension-form P X) e = by-value (valueOf bs X) (λ q. rw q r) (λ v q. rw q (k (under P v) (once s P X v r e q)))
+    replaced-keeps : (s : Side) → R s → (onward : Side → Side) → ((t : Side) → R t → R (onward t)) → {w : Form Table Side} → Root w → top g s ≡ w → R (replaced bs s w onward)
+    replaced-keeps s r onward k (suspended P X) e = by-value (valueOf bs X) (λ q. rw q r) (λ v q. rw q (k (under P v) (once s P X v r e q)))
+    replaced-keeps s r onward k {w} (otherwise n) e = rw (replaced-other bs s onward w n) r
 
     pub resolvedIn-keeps : (k : ℕ) (s : Side) → R s → R (resolvedIn k g bs s)
     unfolding resolvedIn
     resolvedIn-keeps zero s r = r
-    resolvedIn-keeps (suc k) s r = replaced-keeps s r (λ t. resolvedIn k g bs t) (λ t q. resolvedIn-keeps k t q) (top g s) refl
+    resolvedIn-keeps (suc k) s r = replaced-keeps s r (λ t. resolvedIn k g bs t) (λ t q. resolvedIn-keeps k t q) (root (top g s)) refl
 
     pub resolved-keeps : (s : Side) → R s → R (resolved g bs s)
     unfolding resolved
     resolved-keeps s r = resolvedIn-keeps (length bs) s r
 
   -- A settled side is resolved.
-  pub replaced-settled : (s : Side) (onward : Side → Side) (w : Form Table Side) → Settled bs w → replaced bs s w onward ≡ s
-  replaced-settled s onward unit-form h = refl
-  replaced-settled s onward (atom-form a) h = refl
-  replaced-settled s onward (abstraction-form a t) h = refl
-  replaced-settled s onward (pair-form t u) h = refl
-  replaced-settled s onward (application-form f t) h = refl
-  replaced-settled s onward (suspension-form P X) h = rw (h P X refl)
+  replaced-settled : (s : Side) (onward : Side → Side) {w : Form Table Side} → Root w → Settled bs w → replaced bs s w onward ≡ s
+  replaced-settled s onward (suspended P X) h = rw (h P X refl)
+  replaced-settled s onward {w} (otherwise n) h = replaced-other bs s onward w n
 
   pub resolvedIn-settled : (k : ℕ) (s : Side) → Settled bs (top g s) → resolvedIn k g bs s ≡ s
   unfolding resolvedIn
   resolvedIn-settled zero s h = refl
-  resolvedIn-settled (suc k) s h = replaced-settled s (λ t. resolvedIn k g bs t) (top g s) h
+  resolvedIn-settled (suc k) s h = replaced-settled s (λ t. resolvedIn k g bs t) (root (top g s)) h
 
 -- One more binding takes at most one more replacement.
 module _ (g : Ground) (bs : List Binding) (b : Binding) (free : valueOf bs (b .variable) ≡ none) (apart : Settled (bs ++ (b ∷ [])) (top g (b .value))) where
   settled-under : (P : Table) → Settled (bs ++ (b ∷ [])) (top g (under P (b .value)))
   settled-under P R Z e = let k = top-under g P (b .value) R Z e in apart (k .0) Z (k .1)
 
-  settled-once : (s : Side) (k : ℕ) (w : Form Table Side) → top g s ≡ w → Settled bs w → Settled (bs ++ (b ∷ [])) (top g (replaced (bs ++ (b ∷ [])) s w (λ t. resolvedIn k g (bs ++ (b ∷ [])) t)))
-  settled-once s k unit-form e h = rw e (λ P X q. absurd (let z : _≡_ {A = ℕ} 0 1 = cc in omega arith))
-  settled-once s k (atom-form a) e h = rw e (λ P X q. absurd (let z : _≡_ {A = ℕ} 0 1 = cc in omega arith))
-  settled-once s k (abstraction-form a t) e h = rw e (λ P X q. absurd (let z : _≡_ {A = ℕ} 0 1 = cc in omega arith))
-  settled-once s k (pair-form t u) e h = rw e (λ P X q. absurd (let z : _≡_ {A = ℕ} 0 1 = cc in omega arith))
-  settled-once s k (application-form f t) e h = rw e (λ P X q. absurd (let z : _≡_ {A = ℕ} 0 1 = cc in omega arith))
-  settled-once s k (suspension-form P X) e h =
+  settled-once : (s : Side) (k : ℕ) {w : Form Table Side} → Root w → top g s ≡ w → Settled bs w → Settled (bs ++ (b ∷ [])) (top g (replaced (bs ++ (b ∷ [])) s w (λ t. resolvedIn k g (bs ++ (b ∷ [])) t)))
+  settled-once s k (suspended P X) e h =
       by-eq X (b .variable)
       (λ q. rw (q, valueOf-new bs b free, resolvedIn-settled g (bs ++ (b ∷ [])) k (under P (b .value)) (settled-under P)) (settled-under P))
       (λ n. rw (valueOf-other bs b X n, h P X refl, e) (λ Q Y q. let z : Y ≡ X = cc in rw z (valueOf-other bs b X n ∙ h P X refl)))
+  settled-once s k {w} (otherwise n) e h = rw (replaced-other (bs ++ (b ∷ [])) s (λ t. resolvedIn k g (bs ++ (b ∷ [])) t) w n, e) (settled-other (bs ++ (b ∷ [])) w n)
+
+  settled-step : (s : Side) (k : ℕ)
+      → ((t : Side) → Settled bs (top g (resolvedIn k g bs t)) → Settled (bs ++ (b ∷ [])) (top g (resolvedIn (suc k) g (bs ++ (b ∷ [])) t)))
+      → {w : Form Table Side} → Root w → top g s ≡ w → Settled bs (top g (replaced bs s w (λ t. resolvedIn k g bs t)))
+      → Settled (bs ++ (b ∷ [])) (top g (replaced (bs ++ (b ∷ [])) s w (λ t. resolvedIn (suc k) g (bs ++ (b ∷ [])) t)))
+  settled-step s k ih (suspended P X) e h =
+      by-value (valueOf bs X)
+      (λ q. settled-once s (suc k) (suspended P X) e (λ R Y y. let z : Y ≡ X = cc in rw (z, q)))
+      (λ v q. rw (valueOf-kept bs (b ∷ []) X v q) (ih (under P v) (rw q at h)))
+  settled-step s k ih {w} (otherwise n) e h = settled-once s (suc k) (otherwise n) e (settled-other bs w n)
 
   settled-more : (k : ℕ) (s : Side) → Settled bs (top g (resolvedIn k g bs s)) → Settled (bs ++ (b ∷ [])) (top g (resolvedIn (suc k) g (bs ++ (b ∷ [])) s))
   unfolding resolvedIn
-  settled-more zero s h = settled-once s zero (top g s) refl h
-  settled-more (suc k) s h = by-form (λ t. settled-more k t) (top g s) refl h
-    where
-      by-form : ((t : Side) → Settled bs (top g (resolvedIn k g bs t)) → Settled (bs ++ (b ∷ [])) (top g (resolvedIn (suc k) g (bs ++ (b ∷ [])) t)))
-          → (w : Form Table Side) → top g s ≡ w → Settled bs (top g (replaced bs s w (λ t. resolvedIn k g bs t)))
-          → Settled (bs ++ (b ∷ [])) (top g (replaced (bs ++ (b ∷ [])) s w (λ t. resolvedIn (suc k) g (bs ++ (b ∷ [])) t)))
-      by-form ih unit-form e h = settled-once s (suc k) unit-form e (λ P X q. absurd (let z : _≡_ {A = ℕ} 0 1 = cc in omega arith))
-      by-form ih (atom-form a) e h = settled-once s (suc k) (atom-form a) e (λ P X q. absurd (let z : _≡_ {A = ℕ} 0 1 = cc in omega arith))
-      by-form ih (abstraction-form a t) e h = settled-once s (suc k) (abstraction-form a t) e (λ P X q. absurd (let z : _≡_ {A = ℕ} 0 1 = cc in omega arith))
-      by-form ih (pair-form t u) e h = settled-once s (suc k) (pair-form t u) e (λ P X q. absurd (let z : _≡_ {A = ℕ} 0 1 = cc in omega arith))
-      by-form ih (application-form f t) e h = settled-once s (suc k) (application-form f t) e (λ P X q. absurd (let z : _≡_ {A = ℕ} 0 1 = cc in omega arith))
-      by-form ih (suspension-form P X) e h =
-          by-value (valueOf bs X)
-          (λ q. settled-once s (suc k) (suspension-form P X) e (λ R Y y. let z : Y ≡ X = cc in rw (z, q)))
-          (λ v q. rw (valueOf-kept bs (b ∷ []) X v q) (ih (under P v) (rw q at h)))
+  settled-more zero s h = settled-once s zero (root (top g s)) refl h
+  settled-more (suc k) s h = settled-step s k (λ t. settled-more k t) (root (top g s)) refl h
 
   pub settled-resolved : (s : Side) → Settled bs (top g (resolved g bs s)) → Settled (bs ++ (b ∷ [])) (top g (resolved g (bs ++ (b ∷ [])) s))
   unfolding resolved
@@ -260,6 +260,7 @@ module _ (g : Ground) (variables : ℕ) (named : (n : ℕ) → Named (g .atoms) 
     worth = λ X v e. absurd (let z : _≡_ {A = ℕ} 0 1 = cc in omega arith);
     gone = λ X Y o. refl;
     named = λ X h. (h, tt);
+    apart = λ X v e. absurd (let z : _≡_ {A = ℕ} 0 1 = cc in omega arith);
     settles = λ s P X e. refl;
     follows = λ ∇ τ h X. rw permute-nil (equal-reflexive (τ X));
     absorbs = λ τ h X. sym (permute-nil (τ X));
@@ -281,8 +282,8 @@ module _ (g : Ground) (variables : ℕ) (named : (n : ℕ) → Named (g .atoms) 
     σ′ = composed (replacing (b .variable) worth′) σ
 
     -- X itself is not at the root of its value.
-    apart : Settled (bs ++ (b ∷ [])) (top g (b .value))
-    apart P Z e =
+    not-at-root : Settled (bs ++ (b ∷ [])) (top g (b .value))
+    not-at-root P Z e =
         let f : valueOf bs Z ≡ none = s .settled P Z e in
         valueOf-other bs b Z (λ q. s .absent (rw (top-suspension (b .value) P Z (s .fits) e .1, m .free Z f) (sym q))) ∙ f
 
@@ -323,6 +324,9 @@ module _ (g : Ground) (variables : ℕ) (named : (n : ℕ) → Named (g .atoms) 
         (λ n. rw (replacing-other (b .variable) worth′ Y n) (l, tt)))
         (σ X) (m .named X h)
 
+    new-apart : Occurs (b .variable) (sideTree (g .nodes) (b .value)) → ⊥
+    new-apart o = s .absent (occurs-substituted σ (b .variable) (b .variable) (sideTree (g .nodes) (b .value)) o (rw (m .free (b .variable) (s .unbound)) refl))
+
     follows′ : (∇ : Environment) (τ : Substitution) → Lines ∇ τ (g .nodes) (bs ++ (b ∷ [])) → Satisfies ∇ τ σ′
     follows′ ∇ τ h =
         let k : Satisfies ∇ τ σ = m .follows ∇ τ (λ X v e. h X v (valueOf-kept bs (b ∷ []) X v e)) in
@@ -348,7 +352,8 @@ module _ (g : Ground) (variables : ℕ) (named : (n : ℕ) → Named (g .atoms) 
       worth = λ X v e. valueOf-split bs b X v e (s .unbound) (old-worth X v) (λ q k. rw (q, k) new-worth);
       gone = gone′;
       named = named′;
-      settles = λ t. settled-resolved g bs b (s .unbound) apart t (m .settles t);
+      apart = λ X v e. valueOf-split bs b X v e (s .unbound) (m .apart X v) (λ q k. rw (q, k) new-apart);
+      settles = λ t. settled-resolved g bs b (s .unbound) not-at-root t (m .settles t);
       follows = follows′;
       absorbs = absorbs′;
     }

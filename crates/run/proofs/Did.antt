@@ -23,6 +23,22 @@ kind (pair-form l r) = 3
 kind (application-form f s) = 4
 kind (suspension-form P X) = 5
 
+-- A top is a suspension, or it is not.
+pub data Root : Form Table Side → Type 0 where
+  suspended : (P : Table) (X : ℕ) → Root (suspension-form P X)
+  otherwise : {w : Form Table Side} → kind w ≢ 5 → Root w
+
+other : (w : Form Table Side) → kind w < 5 → Root w
+other w h = otherwise {w = w} (λ e. omega arith)
+
+pub root : (w : Form Table Side) → Root w
+root unit-form = other unit-form (omega arith)
+root (atom-form a) = other (atom-form a) (omega arith)
+root (abstraction-form a s) = other (abstraction-form a s) (omega arith)
+root (pair-form l r) = other (pair-form l r) (omega arith)
+root (application-form f s) = other (application-form f s) (omega arith)
+root (suspension-form P X) = suspended P X
+
 -- The form is no suspension of X.
 abbrev pub NotOf : ℕ → Form Table Side → Type 0
 NotOf X w = (Q : Table) → w ≢ suspension-form Q X

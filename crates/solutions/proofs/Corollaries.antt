@@ -12,7 +12,7 @@ use lib.Dec.{leb}
 use Rattle.permutation.proofs.Swaps.{by-eq}
 use Rattle.field.specs.Field.{Bytes}
 use Rattle.nominal.specs.Tree.{Substitution}
-use Rattle.nominal.specs.Solutions.{Facts, given, Allowed, Solves, Idempotent, Unbound}
+use Rattle.nominal.specs.Solutions.{Facts, given, Allowed, Solves, Unbound}
 use Rattle.nominal.proofs.Solutions.{own-instance, protecting-variable, solves-among}
 use Rattle.problem.specs.Problem.{Problem}
 use Rattle.problem.specs.Readable.{Readable}
@@ -24,8 +24,8 @@ use Rattle.run.specs.Run.{Refusal, clash, inside, protection, End, limit, refus
 use Rattle.run.specs.Answer.{resolvedAll, facts, answerBytes, Verdict, accepted, refusal, numberOf, concluded, verdictOf, verdictRead, Result, written, given as result, solve}
 use Rattle.run.proofs.Questions.{Wherever, NamedFact}
 use Rattle.run.proofs.Facts.{every-facts}
-use Rattle.run.proofs.Bindings.{meant-idempotent}
-use Rattle.run.proofs.States.{AtEnd}
+use Rattle.run.proofs.Bindings.{Meant, meant-idempotent, meant-only}
+use Rattle.run.proofs.States.{groundWith, AtEnd}
 use Rattle.solutions.specs.Promises.{asked, IsProtected, allowance, answerOf, Unsolvable, Promised, Proper, SameDemands, Agree, Accepts, Refuses}
 use Rattle.solutions.proofs.Answers.{askedAll, asks-named, facts-named, facts-unbound, Kept, run-kept, listed, meaning-allowed, promised}
 
@@ -42,13 +42,15 @@ module _ (p : Problem) (r : Readable p) where
   number-run inside = (omega arith, omega arith)
   number-run protection = (omega arith, omega arith)
 
-  concluded-proper : (k : ℕ) (bs : List Binding) → ((fs : Facts) → Allowed (allowance p) fs (meaning (p .nodes) bs)) → Idempotent (meaning (p .nodes) bs) → (o : Option (List Fact))
+  concluded-proper : (k : ℕ) (bs : List Binding) (isProtected : ℕ → Bool) → Meant (groundWith p isProtected) (p .variables) bs (meaning (p .nodes) bs) → ((fs : Facts) → Allowed (allowance p) fs (meaning (p .nodes) bs)) → (o : Option (List Fact))
       → Wherever (NamedFact (p .atoms) (p .variables)) o → Wherever (Unbound (meaning (p .nodes) bs)) o → Promised (allowance p) p (concluded p k bs o) → ProperVerdict p (concluded p k bs o)
-  concluded-proper k bs a once none n u h = (omega arith, omega arith)
-  concluded-proper k bs a once (some fs) n u h = record {
+  concluded-proper k bs isProtected m a none n u h = (omega arith, omega arith)
+  concluded-proper k bs isProtected m a (some fs) n u h = record {
     solves = h (facts p fs) (meaning (p .nodes) bs) (a (facts p fs)) .1 (own-instance (allowance p) (protecting-variable (IsProtected p)) (answerOf p bs (facts p fs)));
     allowed = a (facts p fs);
-    twice = once;
+    replaces = record { stays = m .free; becomes = m .worth; none-left = m .gone; apart = m .apart };
+    only = λ τ c. meant-only m τ (c .stays) (c .becomes);
+    twice = meant-idempotent m;
     unbound = every-facts p (Unbound (meaning (p .nodes) bs)) fs n .0 u;
   }
 
@@ -58,7 +60,7 @@ module _ (p : Problem) (r : Readable p) where
   verdict-proper (refused c n) s h = number-run c
   verdict-proper (finished k bs ds) s h =
       let m = s .0 .meant in
-      concluded-proper k bs (λ fs. (tt, meaning-allowed p r s)) (meant-idempotent m) (resolvedAll (meaning (p .nodes) bs) (askedAll p ds))
+      concluded-proper k bs (listed p) m (λ fs. (tt, meaning-allowed p r s)) (resolvedAll (meaning (p .nodes) bs) (askedAll p ds))
       (facts-named p (listed p) m (askedAll p ds) (asks-named p r (listed p) ds (s .0 .raised)))
       (facts-unbound p (listed p) m (askedAll p ds)) h
 

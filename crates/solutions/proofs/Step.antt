@@ -17,7 +17,7 @@ use Rattle.nominal.specs.Figure2.{Environment, ≈-unit, ≈-atom}
 use Rattle.nominal.specs.Solutions.{Every, Meets, Equates, Satisfies}
 use Rattle.nominal.proofs.Laws.{equal-symmetric, equal-transitive}
 use Rattle.nominal.proofs.Solutions.{satisfies-tree}
-use Rattle.nominal.proofs.Steps.{step-pair, step-application, step-abstraction-same, step-abstraction-other, step-suspension, step-variable, occurs-refused, forms-refused, atoms-refused, symbols-refused, protected-refused, two-protected-refused}
+use Rattle.nominal.proofs.Steps.{form-substitute, step-pair, step-application, step-abstraction-same, step-abstraction-other, step-suspension, step-variable, occurs-refused, forms-refused, atoms-refused, symbols-refused, protected-refused, two-protected-refused}
 use Rattle.problem.specs.Problem.{Form, unit-form, atom-form, abstraction-form, pair-form, application-form, suspension-form, Node, formAt}
 use Rattle.problem.specs.Readable.{Named}
 use Rattle.run.specs.Meaning.{Side, sideTree, Binding, meaning}
@@ -26,7 +26,7 @@ use Rattle.run.specs.Answer.{subjectTree}
 use Rattle.nominal.specs.Same.{Same}
 use Rattle.run.proofs.Same.{same-symmetric, same-transitive, same-permute, same-substitute, same-equal, alike-inverse}
 use Rattle.run.proofs.Trees.{Permuting, Fits, act-permuting, tree-under-inverted, tree-underSwap, Shows, TopFits, top-shows, top-fits}
-use Rattle.run.proofs.Did.{Did, step-did, kind, NotOf, two-units, same-atoms, same-abstractions, other-abstractions, two-pairs, same-symbols, one-variable, left-bound, right-bound, left-inside, right-inside, left-protected, right-protected, both-protected, different-forms, different-atoms, different-symbols}
+use Rattle.run.proofs.Did.{Did, step-did, kind, Root, suspended, otherwise, root, NotOf, two-units, same-atoms, same-abstractions, other-abstractions, two-pairs, same-symbols, one-variable, left-bound, right-bound, left-inside, right-inside, left-protected, right-protected, both-protected, different-forms, different-atoms, different-symbols}
 use Rattle.run.proofs.Questions.{occursIn-true}
 use Rattle.run.proofs.Bindings.{Settled, Meant, resolved-fits, resolved-equal}
 
@@ -68,15 +68,12 @@ module _ (g : Ground) (variables : ℕ) (named : (n : ℕ) → Named (g .atoms) 
   σ = meaning (g .nodes) bs
 
   -- Under the bindings a settled side does not become a suspension of X, unless it is one.
-  not-root : (t : Tree) (X : ℕ) (w : Form Table Side) → Shows (g .nodes) t w → Settled bs w → NotOf X w → (κ : Swaps) → substitute σ t ≢ suspension κ X
-  not-root t X unit-form e s n κ q = let z : _≡_ {A = ℕ} 0 5 = ap form (sym (ap (substitute σ) e) ∙ q) in omega arith
-  not-root t X (atom-form a) e s n κ q = let z : _≡_ {A = ℕ} 1 5 = ap form (sym (ap (substitute σ) e) ∙ q) in omega arith
-  not-root t X (abstraction-form a u) e s n κ q = let z : _≡_ {A = ℕ} 2 5 = ap form (sym (ap (substitute σ) e) ∙ q) in omega arith
-  not-root t X (pair-form l r) e s n κ q = let z : _≡_ {A = ℕ} 3 5 = ap form (sym (ap (substitute σ) e) ∙ q) in omega arith
-  not-root t X (application-form f u) e s n κ q = let z : _≡_ {A = ℕ} 4 5 = ap form (sym (ap (substitute σ) e) ∙ q) in omega arith
-  not-root t X (suspension-form Q Y) e s n κ q =
+  not-root : (t : Tree) (X : ℕ) {w : Form Table Side} → Root w → Shows (g .nodes) t w → Settled bs w → NotOf X w → (κ : Swaps) → substitute σ t ≢ suspension κ X
+  not-root t X (suspended Q Y) e s n κ q =
       let k : permute (e .0) (variable Y) ≡ suspension κ X = rw (e .1, m .free Y (s Q Y refl)) at q in
       n Q (let y : Y ≡ X = cc in ap (suspension-form Q) y)
+  not-root t X {w} (otherwise d) e s n κ q =
+      let f : form t ≡ kind w = shows-form (g .nodes) t w e in d (sym f ∙ (sym (form-substitute σ t (λ z. d (sym f ∙ z))) ∙ ap form q))
 
   module _ (∇ : Environment) (τ : Substitution) (left : (X : ℕ) → g .protected X ≡ true → valueOf bs X ≡ none → τ X ≡ variable X) (h : Satisfies ∇ τ σ) where
     abbrev Says : Step → Type 0
@@ -141,9 +138,9 @@ module _ (g : Ground) (variables : ℕ) (named : (n : ℕ) → Named (g .atoms) 
     did-comes s t f k (right-bound {Q = Q} {Y = Y} n l u o) p q i j a b =
         let x = bound-equal (q .0) Q Y s (j .0) (q .2) f in rw (q .1) (λ e. (tt, (x .0 (equal-symmetric e), tt), tt), λ y. equal-symmetric (x .1 (y .1 .0)))
     did-comes s t f k (left-inside {X = X} {w = w} n u o) p q i j a b =
-        rw (p .1) (inside-refused (p .0) X (sideTree (g .nodes) t) (occursIn-true X (substitute σ (sideTree (g .nodes) t)) o) (not-root (sideTree (g .nodes) t) X w q b n), λ c. absurd c)
+        rw (p .1) (inside-refused (p .0) X (sideTree (g .nodes) t) (occursIn-true X (substitute σ (sideTree (g .nodes) t)) o) (not-root (sideTree (g .nodes) t) X (root w) q b n), λ c. absurd c)
     did-comes s t f k (right-inside {v = v} {Y = Y} n l u o) p q i j a b =
-        rw (q .1) (λ e. inside-refused (q .0) Y (sideTree (g .nodes) s) (occursIn-true Y (substitute σ (sideTree (g .nodes) s)) o) (not-root (sideTree (g .nodes) s) Y v p a n) (equal-symmetric e), λ c. absurd c)
+        rw (q .1) (λ e. inside-refused (q .0) Y (sideTree (g .nodes) s) (occursIn-true Y (substitute σ (sideTree (g .nodes) s)) o) (not-root (sideTree (g .nodes) s) Y (root v) p a n) (equal-symmetric e), λ c. absurd c)
     did-comes s t f k (left-protected {P = P} {X = X} {w = w} n u) p q i j a b =
         rw (p .1) (protected-refused τ (p .0) X (sideTree (g .nodes) t) (left X u (a P X refl)) (λ e. n (sym (shows-form (g .nodes) (sideTree (g .nodes) t) w q) ∙ e)), λ c. absurd c)
     did-comes s t f k (right-protected {v = v} {Q = Q} {Y = Y} n u) p q i j a b =

@@ -4,12 +4,14 @@ use Prim.Native.Nat.{ℕ, _≤_}
 use mathlib.Core.Path.{_≡_}
 use mathlib.Core.Logic.{_≢_, _↔_}
 use mathlib.Core.List.{List, _++_, map, List·Memᴰ}
-use Rattle.nominal.specs.Tree.{Substitution}
+use mathlib.Core.Option.{none, some}
+use Rattle.nominal.specs.Tree.{variable, Occurs, Substitution, substitute}
 use Rattle.nominal.specs.Figure2.{_⊢_#_, _⊢_≈_}
 use Rattle.nominal.specs.Solutions.{Every, Facts, given, Allowance, Allowed, protecting, Demand, Equation, Solves, Answer, EquallyGeneral, Answers, Idempotent, Unbound, Problem as TreeProblem}
-use Rattle.problem.specs.Problem.{Problem}
-use Rattle.run.specs.Meaning.{Fact, tree, Binding, meaning}
+use Rattle.problem.specs.Problem.{Node, Problem}
 use Rattle.problem.specs.Reader.{read, reading, baseTags}
+use Rattle.run.specs.Meaning.{Fact, tree, Side, sideTree, Binding, meaning}
+use Rattle.run.specs.Run.{valueOf}
 use Rattle.run.specs.Answer.{askedFresh, askedAssumed, assumedFacts, answerBytes, Verdict, accepted, refusal, Result, written, Judgement}
 
 -- A problem's demands (21, 22) and equations, as trees.
@@ -39,11 +41,20 @@ abbrev pub Promised : Allowance → Problem → Verdict → Type 0
 Promised A p (accepted steps bs fs) = Answers A (asked p) (answerOf p bs fs)
 Promised A p (refusal n o) = 9 ≤ n → n ≤ 12 → Unsolvable A p
 
--- An accepted answer by itself: it solves its problem, it is allowed, and its substitution done twice is itself; each of its facts is about an
--- unbound variable.
+-- "The bindings' meaning is to replace bound variables until none is left. No value contains its own variable." The four hold of one substitution only.
+pub record Replaces (nodes : List Node) (bs : List Binding) (σ : Substitution) : Type 0 where
+  pub stays : (X : ℕ) → valueOf bs X ≡ none → σ X ≡ variable X
+  pub becomes : (X : ℕ) (v : Side) → valueOf bs X ≡ some v → σ X ≡ substitute σ (sideTree nodes v)
+  pub none-left : (X Y : ℕ) → Occurs Y (σ X) → valueOf bs Y ≡ none
+  pub apart : (X : ℕ) (v : Side) → valueOf bs X ≡ some v → Occurs X (sideTree nodes v) → ⊥
+
+-- An accepted answer by itself: it solves its problem, it is allowed, and its substitution is what document 01 says of its bindings, and done twice is
+-- itself; each of its facts is about an unbound variable.
 pub record Proper (p : Problem) (bs : List Binding) (fs : List Fact) : Type 0 where
   pub solves : Solves (given fs) (meaning (p .nodes) bs) (asked p)
   pub allowed : Allowed (allowance p) fs (meaning (p .nodes) bs)
+  pub replaces : Replaces (p .nodes) bs (meaning (p .nodes) bs)
+  pub only : (τ : Substitution) → Replaces (p .nodes) bs τ → (X : ℕ) → τ X ≡ meaning (p .nodes) bs X
   pub twice : Idempotent (meaning (p .nodes) bs)
   pub unbound : Every (Unbound (meaning (p .nodes) bs)) fs
 
