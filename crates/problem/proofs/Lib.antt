@@ -1,3 +1,5 @@
 pub mod Readable
 pub mod Numbers
 pub mod Saying
+pub mod Located
+pub mod Looking

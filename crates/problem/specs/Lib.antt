@@ -3,3 +3,4 @@ pub mod Reader
 pub mod Readable
 pub mod Held
 pub mod Told
+pub mod Look

@@ -1,0 +1,74 @@
+-- What the code looks up in the problem that an input is, in the code's own types, and what has to stand in the input and in the tables for it.
+-- Definitions alone.
+use Prim.Native.Nat.{ℕ, _<_}
+use mathlib.Core.List.{List, [], _∷_}
+use lib.ListN.{getD}
+use Rattle.permutation.specs.Swaps.{Swaps}
+use Rattle.problem.specs.Problem.{Node, unit-form, atom-form, abstraction-form, pair-form, application-form, suspension-form, formAt, Equal, Fresh, Problem}
+use Rattle.problem.specs.Reader.{node, equation, freshness}
+use Rattle.problem.specs.Held.{Stands, problemOf}
+use Rattle.problem.specs.declared.Form.{Form}
+use Rattle.problem.specs.declared.Form.the-variants.{Unit, Atom, Abstraction, Pair, Application, Suspension}
+use Rattle.problem.specs.declared.look.Equation.{Equation}
+use Rattle.problem.specs.declared.look.Freshness.{Freshness}
+
+-- Node n, equation k and freshness field k of the problem that the input is. Past the end stands a default, as for nodes.
+abbrev pub equationAt : List Equal → ℕ → Equal
+equationAt equations k = getD equations k (record { left = 0; right = 0 })
+
+abbrev pub freshnessAt : List Fresh → ℕ → Fresh
+freshnessAt demands k = getD demands k (record { atom = 0; node = 0; offset = 0 })
+
+abbrev pub formNow : List ℕ → ℕ → Node
+formNow s n = formAt (problemOf s .nodes) n
+
+abbrev pub equationNow : List ℕ → ℕ → Equal
+equationNow s k = equationAt (problemOf s .equations) k
+
+abbrev pub freshnessNow : List ℕ → ℕ → Fresh
+freshnessNow s k = freshnessAt (problemOf s .freshness) k
+
+-- Its field stands where the table says. `Held` gives it for every number that is there.
+pub record NodeStands (s places : List ℕ) (n : ℕ) : Type 0 where
+  pub small : n < 512
+  pub stands : Stands s (getD places n 0) (node (formNow s n))
+
+pub record EquationStands (s places : List ℕ) (k : ℕ) : Type 0 where
+  pub small : k < 64
+  pub stands : Stands s (getD places k 0) (equation (equationNow s k))
+
+pub record FreshnessStands (s places : List ℕ) (k : ℕ) : Type 0 where
+  pub small : k < 64
+  pub stands : Stands s (getD places k 0) (freshness (freshnessNow s k .atom) (freshnessNow s k .node))
+
+-- A form as the code has it: a suspension's swaps are left in the bytes.
+abbrev pub formTold : Node → Form
+formTold unit-form = Unit
+formTold (atom-form a) = Atom (record { 0 = a })
+formTold (abstraction-form a n) = Abstraction (record { 0 = a }) (record { 0 = n })
+formTold (pair-form l r) = Pair (record { 0 = l }) (record { 0 = r })
+formTold (application-form f n) = Application f (record { 0 = n })
+formTold (suspension-form π X) = Suspension (record { 0 = X })
+
+abbrev pub equationTold : Equal → Equation
+equationTold e = record { left = record { 0 = e .left }; right = record { 0 = e .right } }
+
+abbrev pub freshnessTold : Fresh → Freshness
+freshnessTold d = record { atom = record { 0 = d .atom }; node = record { 0 = d .node } }
+
+-- The form is a suspension; its swaps, and none for another form.
+abbrev pub Suspended : Node → Type 0
+Suspended unit-form = ⊥
+Suspended (atom-form a) = ⊥
+Suspended (abstraction-form a n) = ⊥
+Suspended (pair-form l r) = ⊥
+Suspended (application-form f n) = ⊥
+Suspended (suspension-form π X) = Prim.Unit {0}
+
+abbrev pub swapsOf : Node → Swaps
+swapsOf unit-form = []
+swapsOf (atom-form a) = []
+swapsOf (abstraction-form a n) = []
+swapsOf (pair-form l r) = []
+swapsOf (application-form f n) = []
+swapsOf (suspension-form π X) = π

@@ -1,0 +1,79 @@
+// Nodes, equations and freshness fields of a problem that was read, from the input and the tables of offsets that the reader left.
+ghost use mathlib.Core.Path.{_≡_};
+ghost use Rattle.permutation.specs.Swaps.{swapsIn};
+ghost use Rattle.problem.specs.Look.{NodeStands, EquationStands, FreshnessStands, formNow, equationNow, freshnessNow, formTold, equationTold, freshnessTold, Suspended, swapsOf};
+use crate::Form;
+use names::Atom;
+use names::NodeId;
+use names::Variable;
+
+pub struct Equation {
+    pub left: NodeId,
+    pub right: NodeId,
+}
+
+pub struct Freshness {
+    pub atom: Atom,
+    pub node: NodeId,
+}
+
+fn wide(x: u16) -> usize
+    ensures { λ r. ⌜ r ≡ x ⌝ }
+{
+    x as usize
+}
+
+pub fn form_of(s: &[u8], places: &[u16; 512], n: NodeId) -> Form
+    requires { ⌜ NodeStands (now s) (now places) (n .0) ⌝ }
+    ensures { λ r. ⌜ r ≡ formTold (formNow (now (s .entry)) (n .0)) ⌝ }
+{
+    let i = n.0 as usize;
+    let at = wide(places[i]);
+    let tag = s[at];
+    match tag {
+        0x10 => Form::Unit,
+        0x11 => Form::Atom(Atom(s[at + 3])),
+        0x12 => Form::Abstraction(Atom(s[at + 3]), NodeId(field::two(s, at + 4))),
+        0x13 => Form::Pair(NodeId(field::two(s, at + 3)), NodeId(field::two(s, at + 5))),
+        0x14 => Form::Application(field::two(s, at + 3), NodeId(field::two(s, at + 5))),
+        _ => Form::Suspension(Variable(s[at + 3])),
+    }
+}
+
+// The swaps of a suspension, two bytes each, as a part of the input.
+pub fn swaps_of<'a>(s: &'a [u8], places: &[u16; 512], n: NodeId) -> &'a [u8]
+    requires { ⌜ NodeStands (now s) (now places) (n .0) × Suspended (formNow (now s) (n .0)) ⌝ }
+    ensures { λ r. ⌜ swapsIn (now r) ≡ swapsOf (formNow (now (s .entry)) (n .0)) ⌝ }
+{
+    let i = n.0 as usize;
+    let at = wide(places[i]);
+    let size = wide(field::two(s, at + 1));
+    let start = at + 4;
+    let end = at + 3 + size;
+    &s[start..end]
+}
+
+pub fn equation_at(s: &[u8], places: &[u16; 64], k: usize) -> Equation
+    requires { ⌜ EquationStands (now s) (now places) k ⌝ }
+    ensures { λ r. ⌜ r ≡ equationTold (equationNow (now (s .entry)) k) ⌝ }
+{
+    let at = wide(places[k]);
+    let left = field::two(s, at + 3);
+    let right = field::two(s, at + 5);
+    Equation {
+        left: NodeId(left),
+        right: NodeId(right),
+    }
+}
+
+pub fn freshness_at(s: &[u8], places: &[u16; 64], k: usize) -> Freshness
+    requires { ⌜ FreshnessStands (now s) (now places) k ⌝ }
+    ensures { λ r. ⌜ r ≡ freshnessTold (freshnessNow (now (s .entry)) k) ⌝ }
+{
+    let at = wide(places[k]);
+    let node = field::two(s, at + 4);
+    Freshness {
+        atom: Atom(s[at + 3]),
+        node: NodeId(node),
+    }
+}
