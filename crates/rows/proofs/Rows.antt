@@ -1,6 +1,6 @@
 -- The laws of rows: what was stored in a row is read there, every other row stays as it was, and the table keeps its length. And a turn of the
 -- loop that reads a row; the loop that writes one is lib.Seq's `paste`.
-use Prim.Native.Nat.{ℕ, zero, suc, _+_, _-_, _*_, _≤_, _<_}
+use Prim.Native.Nat.{ℕ, zero, suc, _+_, _-_, _*_, _≤_}
 use native.Mathlib.Omega.{arith}
 use native.Mathlib.Decide.{decLe}
 use mathlib.Core.Path.{_≡_, refl, sym, _∙_, ap}

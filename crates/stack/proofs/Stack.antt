@@ -6,18 +6,16 @@ use native.Mathlib.Omega.{arith}
 use mathlib.Core.Path.{_≡_, refl, sym, _∙_, ap, ap₂}
 use mathlib.Core.Logic.{_≢_}
 use mathlib.Core.List.{List, [], _∷_}
-use lib.ListN.{length, getD, set}
+use lib.ListN.{length}
 use lib.Seq.{getD-set-same, getD-set-other}
 use Rattle.permutation.specs.Table.{Table}
 use Rattle.permutation.proofs.Store.{table-ofTable, length-table}
-use Rattle.permutation.specs.Store.{table, ofTable}
-use Rattle.permutation.specs.declared.Permutation.{Permutation}
-use Rattle.rows.specs.Rows.{row, withRow}
+use Rattle.rows.specs.Rows.{row}
 use Rattle.rows.proofs.Rows.{length-row, row-withRow, row-other}
 use Rattle.run.specs.Meaning.{Side}
 use Rattle.run.specs.Run.{Equation}
 use Rattle.stack.specs.declared.Pending.{Pending}
-use Rattle.stack.specs.Stack.{Stack, tables, equationAt, stackOf, equationOf, withEquation, pendingAt, Pushed, Topped}
+use Rattle.stack.specs.Stack.{Stack, equationAt, stackOf, equationOf, withEquation, pendingAt, Pushed, Topped}
 
 pub stackOf-none : (A : ℕ) (t : Stack) → stackOf A t 0 ≡ []
 unfolding stackOf

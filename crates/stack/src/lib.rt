@@ -1,8 +1,7 @@
 // The equations that wait, in tables that the caller lends: place i of each table is part of one equation, and the top is the last in use. Tables may
 // hold anything where nothing waits, so that none is ever cleared. Room for 576 is enough (document 01, "Numbers given back").
 
-ghost use mathlib.Core.Path.{_≡_};
-ghost use Prim.Native.Nat.{_+_, _<_, _≤_};
+ghost use Prim.Native.Nat.{_<_, _≤_};
 ghost use Rattle.stack.specs.Stack.{tables, Pushed, Topped};
 use names::NodeId;
 use permutation::Permutation;

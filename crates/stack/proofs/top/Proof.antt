@@ -1,8 +1,5 @@
 -- `top` meets its contract: what is read at place n is the definition's top.
 use Prim.Native.Nat.{_≤_, _<_}
-use native.Mathlib.Omega.{arith}
-use lib.ListN.{length}
-use mathlib.Core.Path.{_≡_}
 use Rattle.stack.specs.Stack.{tables, pendingAt}
 use Rattle.stack.proofs.Stack.{room, topped}
 use borrow.Author.Needs.{needs}
