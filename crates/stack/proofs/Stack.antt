@@ -1,21 +1,30 @@
 -- The laws of the stack in tables: an equation written above n others is the top, those below it stay, and what the code reads at the top is the
 -- definition's top.
-use Prim.Native.Nat.{ℕ, zero, suc, _+_, _*_, _≤_, _<_}
+use Prim.Native.Nat.{ℕ, zero, suc, _+_, _-_, _*_, _≤_, _<_}
+use native.Mathlib.Nat.{add-zero, zero-add, add-suc, suc-add}
 use native.Mathlib.Numerals.{add-one}
 use native.Mathlib.Omega.{arith}
 use mathlib.Core.Path.{_≡_, refl, sym, _∙_, ap, ap₂}
 use mathlib.Core.Logic.{_≢_}
 use mathlib.Core.List.{List, [], _∷_}
-use lib.ListN.{length}
+use lib.ListN.{length, drop, drop-of-length-le}
 use lib.Seq.{getD-set-same, getD-set-other}
-use Rattle.permutation.specs.Table.{Table}
+use Rattle.permutation.specs.Table.{Table, identity}
+use Rattle.permutation.specs.Store.{table, ofTable}
+use Rattle.permutation.specs.declared.Permutation.{Permutation}
+use Rattle.permutation.proofs.Table.{length-from}
 use Rattle.permutation.proofs.Store.{table-ofTable, length-table}
 use Rattle.rows.specs.Rows.{row}
 use Rattle.rows.proofs.Rows.{length-row, row-withRow, row-other}
 use Rattle.run.specs.Meaning.{Side}
-use Rattle.run.specs.Run.{Equation}
+use Rattle.problem.specs.Problem.{Equal}
+use Rattle.problem.specs.Readable.{Readable}
+use Rattle.problem.specs.Held.{Held, problemOf}
+use Rattle.problem.proofs.Looking.{equation-stands}
+use Rattle.problem.specs.Look.{equationAt as equationIn}
+use Rattle.run.specs.Run.{Equation, equationsFrom}
 use Rattle.stack.specs.declared.Pending.{Pending}
-use Rattle.stack.specs.Stack.{Stack, equationAt, stackOf, equationOf, withEquation, pendingAt, Pushed, Topped}
+use Rattle.stack.specs.Stack.{Stack, equationAt, stackOf, equationOf, withEquation, pendingAt, Pushed, Topped, filled, Standing, Started}
 
 pub stackOf-none : (A : ℕ) (t : Stack) → stackOf A t 0 ≡ []
 unfolding stackOf
@@ -95,3 +104,63 @@ module _ (A : ℕ) (h : A ≤ 32) (n : ℕ) (t : Stack) (r : Room n t) where
   pub topped : (e : Pending) → e ≡ pendingAt A t n → Topped A t n e
   unfolding stackOf
   topped e c = record { content = c; stack = rw add-one (ap (λ (x : Equation). x ∷ stackOf A t n) (sym (ap (equationOf A) c ∙ equationOf-pendingAt))) }
+
+-- ---- the start of a run: from the last equation down
+
+equationsFrom-at : (A i : ℕ) (l : List Equal) (k : ℕ) → k < length l
+    → drop k (equationsFrom A i l) ≡ record { number = i + k; left = record { images = identity A; node = equationIn l k .left }; right = record { images = identity A; node = equationIn l k .right } } ∷ drop (suc k) (equationsFrom A i l)
+equationsFrom-at A i [] k h = absurd (omega arith)
+equationsFrom-at A i (e ∷ l) zero h = rw add-zero
+equationsFrom-at A i (e ∷ l) (suc k) h = equationsFrom-at A (suc i) l k (omega arith) ∙ rw (suc-add, add-suc)
+
+length-equationsFrom : (A i : ℕ) (l : List Equal) → length (equationsFrom A i l) ≡ length l
+length-equationsFrom A i [] = refl
+length-equationsFrom A i (e ∷ l) = ap suc (length-equationsFrom A (suc i) l)
+
+-- What the code pushes of equation k.
+pub first-pending : (A k : ℕ) (p : Permutation) (e : Equal) → p ≡ ofTable (identity A)
+    → equationOf A (record { number = k; left = p; «left_node» = record { 0 = e .left }; right = p; «right_node» = record { 0 = e .right } })
+    ≡ record { number = k; left = record { images = identity A; node = e .left }; right = record { images = identity A; node = e .right } }
+unfolding equationOf
+first-pending A k p e d =
+    let i : table A p ≡ identity A = ap (table A) d ∙ table-ofTable A (identity A) (length-from 0 A) in rw i
+
+-- The last n of the equations are pushed.
+pub record Starting (A : ℕ) (equations : List Equal) (before : Stack) (count n : ℕ) (t : Stack) : Type 0 where
+  pub content : t ≡ filled (drop (count - n) (equationsFrom A 0 equations)) before
+  pub stack : stackOf A t n ≡ drop (count - n) (equationsFrom A 0 equations)
+
+module _ (A : ℕ) (equations : List Equal) (before : Stack) (count : ℕ) (l : count ≡ length equations) where
+  pub starting-none : Starting A equations before count 0 before
+  unfolding filled stackOf
+  starting-none =
+      let d : drop (count - 0) (equationsFrom A 0 equations) ≡ [] = drop-of-length-le (equationsFrom A 0 equations) {i = count - 0} (omega (arith, length-equationsFrom A 0 equations)) in
+      record { content = rw d; stack = sym d }
+
+  pub starting-more : (n : ℕ) (t : Stack) (e : Pending) (after : Stack) → n < count → Starting A equations before count n t → Pushed A t n e after
+      → equationOf A e ≡ record { number = count - n - 1; left = record { images = identity A; node = equationIn equations (count - n - 1) .left }; right = record { images = identity A; node = equationIn equations (count - n - 1) .right } }
+      → Starting A equations before count (n + 1) after
+  unfolding filled
+  starting-more n t e after h s u q =
+      let es = equationsFrom A 0 equations in
+      let k = count - n - 1 in
+      let m : suc k ≡ count - n = omega arith in
+      let i : count - (n + 1) ≡ k = omega arith in
+      let j : 0 + k ≡ k = zero-add k in
+      let d : drop k es ≡ equationOf A e ∷ drop (count - n) es = equationsFrom-at A 0 equations k (omega arith) ∙ rw (j, m, q) in
+      let f : length (drop (count - n) es) ≡ n = ap length (sym (s .stack)) ∙ length-stackOf A t n in
+      record {
+        content = u .content ∙ rw (i, d, f) (ap (withEquation n (equationOf A e)) (s .content));
+        stack = u .stack ∙ rw (i, d) (ap (λ (x : List Equation). equationOf A e ∷ x) (s .stack));
+      }
+
+  pub starting-all : (n : ℕ) (t : Stack) → n ≡ count → Starting A equations before count n t → Started A equations before count t
+  starting-all n t e s =
+      let z : count - n ≡ 0 = omega arith in
+      record { content = rw z at (s .content); stack = rw (z, e) at (s .stack) }
+
+-- What holds a problem that was read gives `start` what it asks.
+pub standing : (s places equationPlaces freshPlaces assumed : List ℕ) (protected : ℕ) → Held s places equationPlaces freshPlaces assumed protected (problemOf s) → Readable (problemOf s)
+    → (count : ℕ) → count ≡ length (problemOf s .equations) → Standing s equationPlaces count
+standing s places equationPlaces freshPlaces assumed protected h r count e =
+    record { all = e; stands = λ k l. equation-stands s places equationPlaces freshPlaces assumed protected h r k (omega arith) }

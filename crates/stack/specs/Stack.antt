@@ -1,11 +1,14 @@
 -- The pending equations in tables: what the definition's stack (run, specs/Run.antt) is read off them. Definitions alone; their laws are in proofs/.
-use Prim.Native.Nat.{ℕ, zero, suc, _+_}
+use Prim.Native.Nat.{ℕ, zero, suc, _+_, _<_}
 use mathlib.Core.Path.{_≡_}
 use mathlib.Core.List.{List, [], _∷_}
-use lib.ListN.{getD, set}
+use lib.ListN.{length, getD, set}
 use Rattle.permutation.specs.Store.{table, ofTable}
 use Rattle.rows.specs.Rows.{row, withRow}
-use Rattle.run.specs.Run.{Equation}
+use Rattle.problem.specs.Problem.{Equal}
+use Rattle.problem.specs.Held.{problemOf}
+use Rattle.problem.specs.Look.{EquationStands}
+use Rattle.run.specs.Run.{Equation, equationsFrom}
 use Rattle.stack.specs.declared.Pending.{Pending}
 
 pub record Stack : Type 0 where
@@ -68,3 +71,18 @@ pub record Pushed (A : ℕ) (before : Stack) (n : ℕ) (e : Pending) (after : St
 pub record Topped (A : ℕ) (t : Stack) (n : ℕ) (r : Pending) : Type 0 where
   pub content : r ≡ pendingAt A t n
   pub stack : stackOf A t (n + 1) ≡ equationOf A r ∷ stackOf A t n
+
+-- "the file's first on top": the tables with equations written from the last to the first.
+unfoldable pub filled : List Equation → Stack → Stack
+filled [] t = t
+filled (e ∷ es) t = withEquation (length es) e (filled es t)
+
+-- The fields of all equations of the problem stand where the table says, and count is their number.
+pub record Standing (s places : List ℕ) (count : ℕ) : Type 0 where
+  pub all : count ≡ length (problemOf s .equations)
+  pub stands : (k : ℕ) → k < count → EquationStands s places k
+
+-- What starting leaves: the definition's stack at the start of a run, of n equations.
+pub record Started (A : ℕ) (equations : List Equal) (before : Stack) (n : ℕ) (after : Stack) : Type 0 where
+  pub content : after ≡ filled (equationsFrom A 0 equations) before
+  pub stack : stackOf A after n ≡ equationsFrom A 0 equations

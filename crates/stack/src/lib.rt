@@ -2,7 +2,8 @@
 // hold anything where nothing waits, so that none is ever cleared. Room for 576 is enough (document 01, "Numbers given back").
 
 ghost use Prim.Native.Nat.{_<_, _≤_};
-ghost use Rattle.stack.specs.Stack.{tables, Pushed, Topped};
+ghost use Rattle.stack.specs.Stack.{tables, Pushed, Topped, Standing, Started};
+ghost use Rattle.problem.specs.Held.{problemOf};
 use names::NodeId;
 use permutation::Permutation;
 
@@ -61,5 +62,48 @@ pub fn top(
         left_node: left_node,
         right: right,
         right_node: right_node,
+    }
+}
+
+// The problem's equations, "the file's first on top": so the last is pushed first. count is their number.
+pub fn start(
+    s: &[u8],
+    equation_places: &[u16; 64],
+    numbers: &mut [u8; 576],
+    lefts: &mut [u16; 576],
+    rights: &mut [u16; 576],
+    left_images: &mut [u8; 18432],
+    right_images: &mut [u8; 18432],
+    count: usize,
+    atoms: usize,
+)
+    requires { ⌜ Standing (now s) (now «equation_places») count × (atoms ≤ 32) ⌝ }
+    ensures { λ r. ⌜ Started atoms (problemOf (now (s .entry)) .equations) (tables (now (numbers .entry)) (now (lefts .entry)) (now (rights .entry)) (now («left_images» .entry)) (now («right_images» .entry))) count (tables (now (numbers .exit)) (now (lefts .exit)) (now (rights .exit)) (now («left_images» .exit)) (now («right_images» .exit))) ⌝ }
+{
+    let p = permutation::identity(atoms);
+    let mut n: usize = 0;
+    while n < count {
+        let k = count - n - 1;
+        let e = problem::look::equation_at(s, equation_places, k);
+        let left = e.left;
+        let right = e.right;
+        let pending = Pending {
+            number: k as u8,
+            left: p,
+            left_node: left,
+            right: p,
+            right_node: right,
+        };
+        push(
+            numbers,
+            lefts,
+            rights,
+            left_images,
+            right_images,
+            n,
+            atoms,
+            pending,
+        );
+        n += 1;
     }
 }
