@@ -1,0 +1,2 @@
+// The run in code: sides with what they are on top, one step, and the loop that yields its verdict.
+pub mod side; // side.rt: a side, and what it is once bound variables are replaced
