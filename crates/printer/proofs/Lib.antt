@@ -1,0 +1,5 @@
+pub mod Placing
+pub mod Spelling
+pub mod Walking
+pub mod Answering
+pub mod Fitting
