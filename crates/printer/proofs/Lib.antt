@@ -3,3 +3,4 @@ pub mod Spelling
 pub mod Walking
 pub mod Answering
 pub mod Fitting
+pub mod Telling

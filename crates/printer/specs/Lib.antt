@@ -1,3 +1,4 @@
 pub mod Placed
 pub mod Lines
 pub mod Printed
+pub mod Kinds

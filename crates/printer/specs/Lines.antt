@@ -89,3 +89,17 @@ solverLines number place output = cond (eqb number 0) (answerLines (take place o
 -- The judge's line: `holds`, or `refused NUMBER PLACE`.
 unfoldable pub judgeLine : ℕ → ℕ → List ℕ
 judgeLine number place = cond (eqb number 0) (holdsWord ++ newline) (refusedLine number place)
+
+-- A stream of problems: for each the solver's lines, the judge's line and an empty line.
+unfoldable pub problemLines : ℕ → ℕ → List ℕ → ℕ → ℕ → List ℕ
+problemLines number place output judged spot = solverLines number place output ++ judgeLine judged spot ++ newline
+
+-- "stream cut after COUNT problems", where the input ends inside a length or a problem.
+abbrev pub cutWords : List ℕ
+cutWords = 115 ∷ 116 ∷ 114 ∷ 101 ∷ 97 ∷ 109 ∷ 32 ∷ 99 ∷ 117 ∷ 116 ∷ 32 ∷ 97 ∷ 102 ∷ 116 ∷ 101 ∷ 114 ∷ 32 ∷ []
+
+abbrev pub problemsWord : List ℕ
+problemsWord = 32 ∷ 112 ∷ 114 ∷ 111 ∷ 98 ∷ 108 ∷ 101 ∷ 109 ∷ 115 ∷ []
+
+unfoldable pub cutLine : ℕ → List ℕ
+cutLine count = cutWords ++ decimal count ++ problemsWord ++ newline

@@ -7,7 +7,8 @@ ghost use Prim.Native.Nat.{ℕ, _+_, _≤_, _<_};
 ghost use lib.ListN.{length, take, drop};
 ghost use Rattle.field.specs.Field.{byte, word, long};
 ghost use Rattle.printer.specs.Placed.{Placed};
-ghost use Rattle.printer.specs.Lines.{decimal, spaced, images, acceptedLine, refusedLine, bindLine, freshLine, known, fieldLine, answerLines, solverLines, judgeLine};
+ghost use Rattle.printer.specs.Lines.{decimal, spaced, images, acceptedLine, refusedLine, bindLine, freshLine, known, fieldLine, answerLines, solverLines, judgeLine, problemLines, cutLine};
+ghost use Rattle.printer.specs.Kinds.{begins, kindOf};
 use field::AtFront;
 use names::Atom;
 use names::NodeId;
@@ -192,4 +193,79 @@ pub fn judge_line(out: &mut [u8], at: usize, number: u8, place: usize) -> usize
         return put_refused(out, at, number, place);
     }
     put(out, at, b"holds\n")
+}
+
+// What one problem of a stream prints.
+pub fn problem_lines(
+    out: &mut [u8],
+    at: usize,
+    number: u8,
+    place: usize,
+    output: &[u8],
+    judged: u8,
+    spot: usize,
+) -> usize
+    ensures { λ r. ⌜ Placed (now (out .entry)) at (problemLines number place (now (output .entry)) judged spot) r (now (out .exit)) ⌝ }
+{
+    let a = solver_lines(out, at, number, place, output);
+    let b = judge_line(out, a, judged, spot);
+    put(out, b, b"\n")
+}
+
+// The last line of a stream that ends inside a length or a problem.
+pub fn cut_line(out: &mut [u8], at: usize, count: usize) -> usize
+    ensures { λ r. ⌜ Placed (now (out .entry)) at (cutLine count) r (now (out .exit)) ⌝ }
+{
+    let a = put(out, at, b"stream cut after ");
+    let b = put_decimal(out, a, count);
+    let c = put(out, b, b" problems");
+    put(out, c, b"\n")
+}
+
+// What a printed line says.
+pub enum Kind {
+    Accepted,
+    Refused,
+    Bind,
+    Fresh,
+    Holds,
+    Other,
+}
+
+fn begins(s: &[u8], word: &[u8]) -> bool
+    ensures { λ r. ⌜ r ≡ begins (now (word .entry)) (now (s .entry)) ⌝ }
+{
+    let mut i: usize = 0;
+    while i < word.len() {
+        if s.len() <= i {
+            return false;
+        }
+        if s[i] != word[i] {
+            return false;
+        }
+        i += 1;
+    }
+    true
+}
+
+// Tells by its word what a line says, so that whoever reads the lines again need not know how they are written.
+pub fn kind_of(line: &[u8]) -> Kind
+    ensures { λ r. ⌜ r ≡ kindOf (now (line .entry)) ⌝ }
+{
+    if begins(line, b"accepted ") {
+        return Kind::Accepted;
+    }
+    if begins(line, b"refused ") {
+        return Kind::Refused;
+    }
+    if begins(line, b"bind ") {
+        return Kind::Bind;
+    }
+    if begins(line, b"fresh ") {
+        return Kind::Fresh;
+    }
+    if begins(line, b"holds\n") {
+        return Kind::Holds;
+    }
+    Kind::Other
 }
