@@ -3,3 +3,7 @@ pub mod Numbers
 pub mod Saying
 pub mod Located
 pub mod Looking
+pub mod Clearing
+pub mod Onward
+pub mod Holding
+pub mod Opened

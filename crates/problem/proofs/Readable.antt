@@ -174,7 +174,7 @@ pub chosen : (b : Bool) (r : Reading) (n o : ℕ) (p : Problem) → cond b r (re
 chosen true r n o p e = (refl, e)
 chosen false r n o p e = let z : _≡_ {A = ℕ} 0 1 = cc in absurd (omega arith)
 
-same-problem : {p q : Problem} → read p ≡ read q → p ≡ q
+pub same-problem : {p q : Problem} → read p ≡ read q → p ≡ q
 same-problem e = cc
 
 one-kept : (known : ℕ → Bool) (p q : Problem) (o : ℕ) (onward : Problem → ℕ → List ℕ → Reading) (f : Field)

@@ -4,3 +4,6 @@ pub mod Readable
 pub mod Held
 pub mod Told
 pub mod Look
+pub mod Tables
+pub mod Noting
+pub mod Opening

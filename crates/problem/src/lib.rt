@@ -3,8 +3,10 @@
 use names::Atom;
 use names::NodeId;
 use names::Variable;
+use sets::VariableSet;
 
 pub mod look; // look.rt: nodes, equations and freshness fields, from the bytes
+pub mod reader; // reader.rt: the reader of document 01
 pub mod says; // says.rt: what one field says, or which fault it has
 
 // A node's form. A suspension's swaps stay in the bytes: `look::swaps_of` hands them back as a part of the input.
@@ -15,4 +17,27 @@ pub enum Form {
     Pair(NodeId, NodeId),
     Application(u16, NodeId),
     Suspension(Variable),
+}
+
+// A problem's numbers. Its fields stay in the input, and the tables say where.
+pub struct Counts {
+    pub atoms: u8,
+    pub variables: u8,
+    pub limit: u32,
+    pub nodes: u16,
+    pub equations: u8,
+    pub freshness: u8,
+    pub protected: VariableSet,
+}
+
+// What becomes of an input: a problem, or one of document 01's refusals 1 to 7, from the third on with its place.
+pub enum Reading {
+    Read(Counts),
+    TooLong,
+    NoHead,
+    Cut(usize),
+    UnknownTag(usize),
+    WrongLength(usize),
+    TooMany(usize),
+    NotThere(usize),
 }
