@@ -1,0 +1,4 @@
+pub mod Sets
+pub mod Only
+pub mod Meaning
+pub mod Bindings

@@ -1,0 +1,109 @@
+// The occurs check as a closure over sets of variables. The set of the variables that occur in each node is made once, from the sets of its parts;
+// then "X occurs in the right side, looked at through all bindings" takes at most one step for each bound variable, however often nodes are shared.
+
+ghost use mathlib.Core.Path.{_≡_};
+ghost use mathlib.Core.Bool.{true};
+ghost use Prim.Native.Nat.{ℕ, _<_};
+ghost use lib.ListN.{length, getD, set};
+ghost use Rattle.sets.specs.Bits.{member};
+ghost use Rattle.problem.specs.Held.{problemOf};
+ghost use Rattle.lookup.specs.Told.{NodesHeld};
+ghost use Rattle.occurs.specs.Reached.{VariablesOf, FilledBelow, Filled, Closure, Answered};
+use lookup::Form;
+use names::NodeId;
+use names::Variable;
+use sets::VariableSet;
+
+// The set that the table has for a node.
+fn variables(node_variables: &[u64; 512], node: NodeId) -> VariableSet
+    requires { ⌜ node .0 < 512 ⌝ }
+    ensures { λ r. ⌜ r .0 ≡ getD (now («node_variables» .entry)) (node .0) 0 ⌝ }
+{
+    let n = node.0 as usize;
+    VariableSet(node_variables[n])
+}
+
+// The variables of a node, from the sets of the nodes before it.
+fn variables_at(
+    s: &[u8],
+    places: &[u16; 512],
+    node_variables: &[u64; 512],
+    node: NodeId,
+) -> VariableSet
+    requires { ⌜ NodesHeld (now s) (now places) × (node .0 < length (problemOf (now s) .nodes)) × FilledBelow (problemOf (now s) .nodes) (now «node_variables») (node .0) ⌝ }
+    ensures { λ r. ⌜ VariablesOf (problemOf (now (s .entry)) .nodes) (node .0) (r .0) ⌝ }
+{
+    let form = lookup::form_of(s, places, node);
+    match form {
+        Form::Unit => VariableSet::empty(),
+        Form::Atom(_) => VariableSet::empty(),
+        Form::Abstraction(_, part) => variables(node_variables, part),
+        Form::Pair(left, right) => {
+            let first = variables(node_variables, left);
+            let second = variables(node_variables, right);
+            first.union(second)
+        }
+        Form::Application(_, part) => variables(node_variables, part),
+        Form::Suspension(x) => VariableSet::empty().with(x),
+    }
+}
+
+fn put(node_variables: &mut [u64], n: usize, variables: VariableSet)
+    requires { ⌜ n < length (now «node_variables») ⌝ }
+    ensures { λ r. ⌜ now («node_variables» .exit) ≡ set (now («node_variables» .entry)) n (variables .0) ⌝ }
+{
+    node_variables[n] = variables.0;
+}
+
+// The sets of all nodes, in their order. Rows past the problem's nodes keep what they hold.
+pub fn fill(s: &[u8], places: &[u16; 512], nodes: usize, node_variables: &mut [u64; 512])
+    requires { ⌜ NodesHeld (now s) (now places) × (nodes ≡ length (problemOf (now s) .nodes)) ⌝ }
+    ensures { λ r. ⌜ Filled (problemOf (now (s .entry)) .nodes) (now («node_variables» .entry)) (now («node_variables» .exit)) ⌝ }
+{
+    let mut n: usize = 0;
+    while n < nodes {
+        let v = variables_at(s, places, node_variables, NodeId(n as u16));
+        put(node_variables, n, v);
+        n += 1;
+    }
+}
+
+// The variables that are reached from a node through bindings: each bound variable is looked through at most once.
+pub fn reaches(
+    bound: VariableSet,
+    roots: &[u16; 64],
+    node_variables: &[u64; 512],
+    from: NodeId,
+) -> VariableSet
+    requires { ⌜ (from .0 < 512) × ((Y : ℕ) → member (bound .0) Y ≡ true → getD (now roots) Y 0 < 512) ⌝ }
+    ensures { λ r. ⌜ Closure (bound .0) (now (roots .entry)) (now («node_variables» .entry)) (getD (now («node_variables» .entry)) (from .0) 0) (r .0) ⌝ }
+{
+    let mut reach = variables(node_variables, from);
+    let mut waiting = bound;
+    loop {
+        let unseen = waiting.intersection(reach);
+        if unseen.is_empty() {
+            return reach;
+        }
+        let x = unseen.lowest();
+        let i = x.0 as usize;
+        waiting = waiting.without(x);
+        let found = variables(node_variables, NodeId(roots[i]));
+        reach = reach.union(found);
+    }
+}
+
+// Whether a variable occurs in a node, looked at through all bindings.
+pub fn occurs(
+    x: Variable,
+    bound: VariableSet,
+    roots: &[u16; 64],
+    node_variables: &[u64; 512],
+    node: NodeId,
+) -> bool
+    requires { ⌜ (node .0 < 512) × ((Y : ℕ) → member (bound .0) Y ≡ true → getD (now roots) Y 0 < 512) ⌝ }
+    ensures { λ r. ⌜ Answered (bound .0) (now (roots .entry)) (now («node_variables» .entry)) (node .0) (x .0) r ⌝ }
+{
+    let reach = reaches(bound, roots, node_variables, node);
+    reach.has(x)
+}
