@@ -45,7 +45,7 @@ or-assoc : (a b c : Bool) → (a || b) || c ≡ a || (b || c)
 or-assoc true b c = refl
 or-assoc false b c = refl
 
-or-false : (a : Bool) → a || false ≡ a
+pub or-false : (a : Bool) → a || false ≡ a
 or-false true = refl
 or-false false = refl
 
@@ -55,11 +55,11 @@ or-comm true false = refl
 or-comm false true = refl
 or-comm false false = refl
 
-assumes-more : (ds : List Assumed) (d : Assumed) (a X : ℕ) → assumes (ds ++ (d ∷ [])) a X ≡ assumes ds a X || (eqb (d .atom) a && eqb (d .variable) X)
+pub assumes-more : (ds : List Assumed) (d : Assumed) (a X : ℕ) → assumes (ds ++ (d ∷ [])) a X ≡ assumes ds a X || (eqb (d .atom) a && eqb (d .variable) X)
 assumes-more [] d a X = or-false (eqb (d .atom) a && eqb (d .variable) X)
 assumes-more (e ∷ ds) d a X = ap (λ b. (eqb (e .atom) a && eqb (e .variable) X) || b) (assumes-more ds d a X) ∙ sym (or-assoc (eqb (e .atom) a && eqb (e .variable) X) (assumes ds a X) (eqb (d .atom) a && eqb (d .variable) X))
 
-among-more : (l : List ℕ) (X Y : ℕ) → among Y (l ++ (X ∷ [])) ≡ among Y l || eqb Y X
+pub among-more : (l : List ℕ) (X Y : ℕ) → among Y (l ++ (X ∷ [])) ≡ among Y l || eqb Y X
 among-more [] X Y = or-false (eqb Y X)
 among-more (Z ∷ l) X Y = ap (λ b. eqb Y Z || b) (among-more l X Y) ∙ sym (or-assoc (eqb Y Z) (among Y l) (eqb Y X))
 

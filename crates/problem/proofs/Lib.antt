@@ -7,3 +7,4 @@ pub mod Clearing
 pub mod Onward
 pub mod Holding
 pub mod Opened
+pub mod Refusals
