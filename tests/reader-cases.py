@@ -1,5 +1,5 @@
 #!/usr/bin/env python3
-"""reader-cases.py > tests/reader.tsv: bad input, all of it (document 01, "The problem in bytes" and "Numbers given back").
+"""reader-cases.py > tests/vectors/reader.tsv: bad input, all of it (document 01, "The problem in bytes" and "Numbers given back").
 
 Each case is written with the number that document 01 gives it. The place is where the field at fault starts, which is the
 length of what stands before it: nothing here reads a problem. A few cases at the borders are accepted, so that a reader which
