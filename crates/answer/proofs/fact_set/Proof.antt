@@ -1,0 +1,56 @@
+-- `fact_set` meets its contract.
+use Prim.Native.Nat.{ℕ}
+use mathlib.Core.Path.{sym, ap, _∙_}
+use lib.ListN.{getD}
+use Rattle.sets.specs.Bits.{intersection}
+use Rattle.answer.proofs.Facts.{factSet-bound, factSet-unbound}
+use borrow.Author.Needs.{needs}
+use Rattle.answer.proofs.fact_set.Statement.{statement}
+use Rattle.answer.proofs.fact_set.Tie as tie
+
+cast-below : tie.Need-cast-below
+cast-below c = search needs
+
+has-requires : tie.Need-has-requires
+has-requires c κs = search needs
+
+empty-requires : tie.Need-empty-requires
+empty-requires c κs = search needs
+
+returns : tie.Need-returns
+returns c = let a = c .before .before .before .before .args in c .empty .ensures ∙ factSet-bound (a .atoms) (a .bound .0) (a .asked .now) (a .x) (sym (c .before .before .has .ensures) ∙ c .before .if1 .taken)
+
+cast-below-2 : tie.Need-cast-below-2
+cast-below-2 c = search needs
+
+below-requires : tie.Need-below-requires
+below-requires c κs = search needs
+
+mul-t9 : tie.Need-mul-t9
+mul-t9 c = search needs
+
+shared-slice-read-t11 : tie.Need-shared-slice-read-t11
+shared-slice-read-t11 c = search needs
+
+intersection-requires : tie.Need-intersection-requires
+intersection-requires c κs = search needs
+
+returns-2 : tie.Need-returns-2
+returns-2 c = let a = c .before .before .before .before .before .before .args in
+    c .intersection .ensures ∙ ap (λ (w : ℕ). intersection w (getD (a .asked .now) (a .x) 0)) (c .before .before .below .ensures)
+    ∙ factSet-unbound (a .atoms) (a .bound .0) (a .asked .now) (a .x) (sym (c .before .before .before .before .has .ensures) ∙ c .before .before .before .if1 .left)
+
+pub fact-set-spec : {M : Type 1} → statement M
+fact-set-spec =
+    tie.close
+    (tie.spec
+    cast-below
+    has-requires
+    empty-requires
+    returns
+    cast-below-2
+    below-requires
+    mul-t9
+    shared-slice-read-t11
+    intersection-requires
+    returns-2)
