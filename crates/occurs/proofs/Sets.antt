@@ -12,14 +12,15 @@ use borrow.Author.Tests.{eqb-true}
 use Rattle.permutation.proofs.Swaps.{by-eq}
 use Rattle.sets.specs.Bits.{member, union, intersection, inserted, removed, lowest, count}
 use Rattle.sets.proofs.Bits.{by-member, member-empty, member-union, member-union-left, member-union-right, member-union-cases, member-intersection, member-inserted, member-removed-other, disjoint-apart, lowest-member, lowest-lt, removed-le, intersection-le, not-empty, count-removed-lt}
-use Rattle.problem.specs.Problem.{Node, Problem, unit-form, atom-form, abstraction-form, pair-form, application-form, suspension-form, formAt}
+use Rattle.problem.specs.Problem.{Node, Problem, formAt}
 use Rattle.problem.specs.Readable.{Readable}
+use Rattle.problem.specs.Look.{formTold, untold, swapsOf}
+use Rattle.problem.specs.declared.Form.{Form}
+use Rattle.problem.specs.declared.Form.the-variants.{Unit, Atom, Abstraction, Pair, Application, Suspension}
 use Rattle.problem.proofs.Readable.{both}
+use Rattle.problem.proofs.Looking.{told-back, named-told}
 use Rattle.run.specs.Meaning.{occursIn}
 use Rattle.run.proofs.Trees.{built, tree-built}
-use Rattle.lookup.specs.Told.{formTold, swapsAt}
-use Rattle.lookup.specs.declared.Form.the-variants.{Unit, Atom, Abstraction, Pair, Application, Suspension}
-use Rattle.lookup.proofs.Told.{told-unit, told-atom, told-abstraction, told-pair, told-application, told-suspension, abstraction-there, pair-there, application-there, suspension-there}
 use Rattle.names.specs.declared.Atom as names-atom
 use Rattle.names.specs.declared.Variable as names-variable
 use Rattle.names.specs.declared.NodeId.{NodeId}
@@ -33,34 +34,32 @@ or-false false = refl
 
 module _ {p : Problem} (r : Readable p) (n : ℕ) where
   -- What occurs in a node is what occurs in the tree that its form builds.
-  by-form : (f : Node) → formAt (p .nodes) n ≡ f → (w : ℕ) → ((X : ℕ) → member w X ≡ occursIn X (built (p .nodes) f)) → VariablesOf (p .nodes) n w
-  by-form f e w h X = h X ∙ sym (ap (occursIn X) (tree-built (p .atoms) (p .variables) (p .nodes) (r .named-nodes) n ∙ ap (built (p .nodes)) e))
+  by-form : {f : Form} → formTold (formAt (p .nodes) n) ≡ f → (w : ℕ)
+      → ((X : ℕ) → member w X ≡ occursIn X (built (p .nodes) (untold (swapsOf (formAt (p .nodes) n)) f))) → VariablesOf (p .nodes) n w
+  by-form e w h X =
+      h X ∙ sym (ap (occursIn X) (tree-built (p .atoms) (p .variables) (p .nodes) (r .named-nodes) n ∙ ap (built (p .nodes)) (told-back (formAt (p .nodes) n) (sym e))))
 
   pub variables-unit : formTold (formAt (p .nodes) n) ≡ Unit → (w : ℕ) → w ≡ 0 → VariablesOf (p .nodes) n w
-  variables-unit e w q = by-form unit-form (told-unit _ e) w (λ X. rw q (member-empty X))
+  variables-unit e w q = by-form e w (λ X. rw q (member-empty X))
 
   pub variables-atom : (a : names-atom.Atom) → formTold (formAt (p .nodes) n) ≡ Atom a → (w : ℕ) → w ≡ 0 → VariablesOf (p .nodes) n w
-  variables-atom a e w q = by-form (atom-form (a .0)) (told-atom _ a e) w (λ X. rw q (member-empty X))
+  variables-atom a e w q = by-form e w (λ X. rw q (member-empty X))
 
   pub variables-suspension : (Y : names-variable.Variable) → formTold (formAt (p .nodes) n) ≡ Suspension Y → (w : ℕ) → w ≡ inserted 64 0 (Y .0) → VariablesOf (p .nodes) n w
   variables-suspension Y e w q =
-      by-form (suspension-form (swapsAt (formAt (p .nodes) n)) (Y .0)) (told-suspension _ Y e) w
-      (λ X. rw (q, member-inserted 64 0 (Y .0) X (omega (arith, suspension-there r n Y e, r .few-variables)), member-empty X) (or-false (eqb X (Y .0))))
+      by-form e w (λ X. rw (q, member-inserted 64 0 (Y .0) X (omega (arith, named-told r n (sym e) .0, r .few-variables)), member-empty X) (or-false (eqb X (Y .0))))
 
   module _ (table : List ℕ) (filled : FilledBelow (p .nodes) table n) where
     pub variables-abstraction : (a : names-atom.Atom) (m : NodeId) → formTold (formAt (p .nodes) n) ≡ Abstraction a m → (w : ℕ) → w ≡ getD table (m .0) 0 → VariablesOf (p .nodes) n w
-    variables-abstraction a m e w q =
-        by-form (abstraction-form (a .0) (m .0)) (told-abstraction _ a m e) w (λ X. rw q (filled (m .0) (abstraction-there r n a m e .1) X))
+    variables-abstraction a m e w q = by-form e w (λ X. rw q (filled (m .0) (named-told r n (sym e) .1) X))
 
     pub variables-application : (f : ℕ) (m : NodeId) → formTold (formAt (p .nodes) n) ≡ Application f m → (w : ℕ) → w ≡ getD table (m .0) 0 → VariablesOf (p .nodes) n w
-    variables-application f m e w q =
-        by-form (application-form f (m .0)) (told-application _ f m e) w (λ X. rw q (filled (m .0) (application-there r n f m e) X))
+    variables-application f m e w q = by-form e w (λ X. rw q (filled (m .0) (named-told r n (sym e)) X))
 
     pub variables-pair : (l m : NodeId) → formTold (formAt (p .nodes) n) ≡ Pair l m → (w : ℕ) → w ≡ union (getD table (l .0) 0) (getD table (m .0) 0) → VariablesOf (p .nodes) n w
     variables-pair l m e w q =
-        let k = pair-there r n l m e in
-        by-form (pair-form (l .0) (m .0)) (told-pair _ l m e) w
-        (λ X. rw (q, member-union (getD table (l .0) 0) (getD table (m .0) 0) X, filled (l .0) (k .0) X, filled (m .0) (k .1) X))
+        let k = named-told r n (sym e) in
+        by-form e w (λ X. rw (q, member-union (getD table (l .0) 0) (getD table (m .0) 0) X, filled (l .0) (k .0) X, filled (m .0) (k .1) X))
 
 -- ---- the loop that fills the table
 

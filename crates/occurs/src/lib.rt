@@ -7,11 +7,11 @@ ghost use Prim.Native.Nat.{ℕ, _<_};
 ghost use lib.ListN.{length, getD, set};
 ghost use Rattle.sets.specs.Bits.{member};
 ghost use Rattle.problem.specs.Held.{problemOf};
-ghost use Rattle.lookup.specs.Told.{NodesHeld};
+ghost use Rattle.problem.specs.Look.{NodesStand};
 ghost use Rattle.occurs.specs.Reached.{VariablesOf, FilledBelow, Filled, Closure, Answered};
-use lookup::Form;
 use names::NodeId;
 use names::Variable;
+use problem::Form;
 use sets::VariableSet;
 
 // The set that the table has for a node.
@@ -30,10 +30,10 @@ fn variables_at(
     node_variables: &[u64; 512],
     node: NodeId,
 ) -> VariableSet
-    requires { ⌜ NodesHeld (now s) (now places) × (node .0 < length (problemOf (now s) .nodes)) × FilledBelow (problemOf (now s) .nodes) (now «node_variables») (node .0) ⌝ }
+    requires { ⌜ NodesStand (now s) (now places) × (node .0 < length (problemOf (now s) .nodes)) × FilledBelow (problemOf (now s) .nodes) (now «node_variables») (node .0) ⌝ }
     ensures { λ r. ⌜ VariablesOf (problemOf (now (s .entry)) .nodes) (node .0) (r .0) ⌝ }
 {
-    let form = lookup::form_of(s, places, node);
+    let form = problem::look::form_of(s, places, node);
     match form {
         Form::Unit => VariableSet::empty(),
         Form::Atom(_) => VariableSet::empty(),
@@ -57,7 +57,7 @@ fn put(node_variables: &mut [u64], n: usize, variables: VariableSet)
 
 // The sets of all nodes, in their order. Rows past the problem's nodes keep what they hold.
 pub fn fill(s: &[u8], places: &[u16; 512], nodes: usize, node_variables: &mut [u64; 512])
-    requires { ⌜ NodesHeld (now s) (now places) × (nodes ≡ length (problemOf (now s) .nodes)) ⌝ }
+    requires { ⌜ NodesStand (now s) (now places) × (nodes ≡ length (problemOf (now s) .nodes)) ⌝ }
     ensures { λ r. ⌜ Filled (problemOf (now (s .entry)) .nodes) (now («node_variables» .entry)) (now («node_variables» .exit)) ⌝ }
 {
     let mut n: usize = 0;

@@ -2,10 +2,11 @@
 -- Definitions alone.
 use Prim.Native.Nat.{ℕ, _<_}
 use mathlib.Core.List.{List, [], _∷_}
-use lib.ListN.{getD}
+use lib.ListN.{length, getD}
 use Rattle.permutation.specs.Swaps.{Swaps}
 use Rattle.problem.specs.Problem.{Node, unit-form, atom-form, abstraction-form, pair-form, application-form, suspension-form, formAt, Equal, Fresh, Problem}
 use Rattle.problem.specs.Reader.{node, equation, freshness}
+use Rattle.problem.specs.Readable.{Readable}
 use Rattle.problem.specs.Held.{Stands, problemOf}
 use Rattle.problem.specs.declared.Form.{Form}
 use Rattle.problem.specs.declared.Form.the-variants.{Unit, Atom, Abstraction, Pair, Application, Suspension}
@@ -41,6 +42,11 @@ pub record FreshnessStands (s places : List ℕ) (k : ℕ) : Type 0 where
   pub small : k < 64
   pub stands : Stands s (getD places k 0) (freshness (freshnessNow s k .atom) (freshnessNow s k .node))
 
+-- What a way through the nodes leans on: the problem is within the limits with every name there, and each node's field stands where the table says.
+pub record NodesStand (s places : List ℕ) : Type 0 where
+  pub readable : Readable (problemOf s)
+  pub nodes : (n : ℕ) → n < length (problemOf s .nodes) → NodeStands s places n
+
 -- A form as the code has it: a suspension's swaps are left in the bytes.
 abbrev pub formTold : Node → Form
 formTold unit-form = Unit
@@ -49,6 +55,15 @@ formTold (abstraction-form a n) = Abstraction (record { 0 = a }) (record { 0 = n
 formTold (pair-form l r) = Pair (record { 0 = l }) (record { 0 = r })
 formTold (application-form f n) = Application f (record { 0 = n })
 formTold (suspension-form π X) = Suspension (record { 0 = X })
+
+-- The form again, from what is told of it and its swaps.
+abbrev pub untold : Swaps → Form → Node
+untold π Unit = unit-form
+untold π (Atom a) = atom-form (a .0)
+untold π (Abstraction a n) = abstraction-form (a .0) (n .0)
+untold π (Pair l r) = pair-form (l .0) (r .0)
+untold π (Application f n) = application-form f (n .0)
+untold π (Suspension X) = suspension-form π (X .0)
 
 abbrev pub equationTold : Equal → Equation
 equationTold e = record { left = record { 0 = e .left }; right = record { 0 = e .right } }

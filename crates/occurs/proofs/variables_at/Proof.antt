@@ -1,14 +1,14 @@
 -- `occurs::variables_at` makes a node's set by its form, from the sets of its parts, which stand below it.
 use mathlib.Core.Path.{sym, _∙_}
 use native.Mathlib.Omega.{arith}
-use Rattle.lookup.proofs.Told.{abstraction-there, pair-there, application-there}
+use Rattle.problem.proofs.Looking.{named-told}
 use Rattle.occurs.proofs.Sets.{variables-unit, variables-atom, variables-abstraction, variables-pair, variables-application, variables-suspension}
 use borrow.Author.Needs.{needs}
 use Rattle.occurs.proofs.variables_at.Statement.{statement}
 use Rattle.occurs.proofs.variables_at.Tie as tie
 
 form-of-requires : tie.Need-form-of-requires
-form-of-requires c κs = search needs
+form-of-requires c κs = c .before .pre .0 .nodes _ (c .before .pre .1)
 
 enum-told : tie.Need-enum-told
 enum-told c = search needs
@@ -26,16 +26,16 @@ enum-known-form : tie.Need-enum-known-form
 enum-known-form c = search needs
 
 variables-requires : tie.Need-variables-requires
-variables-requires c κs = omega (arith, abstraction-there (c .before .before .before .before .before .pre .0 .readable) (c .before .before .before .before .before .args .node .0) _ _ (sym (c .before .before .before .form-of .ensures) ∙ c .before .form .given .1) .1, c .before .before .before .before .before .pre .0 .readable .few-nodes)
+variables-requires c κs = omega (arith, named-told (c .before .before .before .before .before .pre .0 .readable) (c .before .before .before .before .before .args .node .0) (sym (c .before .form .given .1) ∙ c .before .before .before .form-of .ensures) .1, c .before .before .before .before .before .pre .0 .readable .few-nodes)
 
 enum-known-form-2 : tie.Need-enum-known-form-2
 enum-known-form-2 c = search needs
 
 variables-requires-2 : tie.Need-variables-requires-2
-variables-requires-2 c κs = omega (arith, pair-there (c .before .before .before .before .before .pre .0 .readable) (c .before .before .before .before .before .args .node .0) _ _ (sym (c .before .before .before .form-of .ensures) ∙ c .before .form2 .given .1) .0, c .before .before .before .before .before .pre .0 .readable .few-nodes)
+variables-requires-2 c κs = omega (arith, named-told (c .before .before .before .before .before .pre .0 .readable) (c .before .before .before .before .before .args .node .0) (sym (c .before .form2 .given .1) ∙ c .before .before .before .form-of .ensures) .0, c .before .before .before .before .before .pre .0 .readable .few-nodes)
 
 variables-requires-3 : tie.Need-variables-requires-3
-variables-requires-3 c κs = omega (arith, pair-there (c .before .before .before .before .before .before .pre .0 .readable) (c .before .before .before .before .before .before .args .node .0) _ _ (sym (c .before .before .before .before .form-of .ensures) ∙ c .before .before .form2 .given .1) .1, c .before .before .before .before .before .before .pre .0 .readable .few-nodes)
+variables-requires-3 c κs = omega (arith, named-told (c .before .before .before .before .before .before .pre .0 .readable) (c .before .before .before .before .before .before .args .node .0) (sym (c .before .before .form2 .given .1) ∙ c .before .before .before .before .form-of .ensures) .1, c .before .before .before .before .before .before .pre .0 .readable .few-nodes)
 
 union-requires : tie.Need-union-requires
 union-requires c κs = search needs
@@ -44,7 +44,7 @@ enum-known-form-3 : tie.Need-enum-known-form-3
 enum-known-form-3 c = search needs
 
 variables-requires-4 : tie.Need-variables-requires-4
-variables-requires-4 c κs = omega (arith, application-there (c .before .before .before .before .before .pre .0 .readable) (c .before .before .before .before .before .args .node .0) _ _ (sym (c .before .before .before .form-of .ensures) ∙ c .before .form3 .given .1), c .before .before .before .before .before .pre .0 .readable .few-nodes)
+variables-requires-4 c κs = omega (arith, named-told (c .before .before .before .before .before .pre .0 .readable) (c .before .before .before .before .before .args .node .0) (sym (c .before .form3 .given .1) ∙ c .before .before .before .form-of .ensures), c .before .before .before .before .before .pre .0 .readable .few-nodes)
 
 enum-known-form-4 : tie.Need-enum-known-form-4
 enum-known-form-4 c = search needs

@@ -1,3 +1,0 @@
-pub mod Fields
-pub mod Held
-pub mod Told
