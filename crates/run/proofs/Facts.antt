@@ -7,13 +7,13 @@ use mathlib.Core.Bool.{Bool, true, false, _&&_, _||_, cond, true≢false}
 use mathlib.Core.List.{List, [], _∷_, map, List·Memᴰ, List·Memᴰ·head, List·Memᴰ·tail, Memᴰ·append-left, Memᴰ·append-right, List·Memᴰ·append-cases}
 use lib.Dec.{eqb}
 use borrow.Author.Tests.{eq-eqb, eqb-true}
+use Rattle.sets.specs.Bits.{among}
 use Rattle.permutation.specs.Table.{upto}
 use Rattle.permutation.proofs.Table.{mem-upto}
 use Rattle.nominal.specs.Solutions.{Every}
 use Rattle.nominal.proofs.Solutions.{every-at, every-of}
 use Rattle.problem.specs.Problem.{Problem}
 use Rattle.run.specs.Meaning.{Fact}
-use Rattle.run.specs.Run.{among}
 use Rattle.run.specs.Answer.{hasFact, factsAmong, allFacts, facts, allAmong}
 use Rattle.run.proofs.Questions.{NamedFact}
 

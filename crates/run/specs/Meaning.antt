@@ -9,6 +9,7 @@ use lib.Dec.{eqb}
 use Rattle.permutation.specs.Swaps.{act, inverse}
 use Rattle.permutation.specs.Table.{Table, swapsOf}
 use Rattle.nominal.specs.Tree.{Tree, unit, atom, abstraction, pair, application, suspension, variable, permute, Substitution, substitute, composed, replacing}
+pub use Rattle.nominal.specs.Solutions.{Fact}
 use Rattle.problem.specs.Problem.{Node, unit-form, atom-form, abstraction-form, pair-form, application-form, suspension-form}
 
 -- The tree of a node, given the trees of the nodes before it; the trees of all nodes, in their order.
@@ -58,10 +59,6 @@ occursIn X (abstraction a t) = occursIn X t
 occursIn X (pair s t) = occursIn X s || occursIn X t
 occursIn X (application f t) = occursIn X t
 occursIn X (suspension π Y) = eqb X Y
-
--- A fact of an answer: a pair of atom and variable.
-abbrev pub Fact : Type 0
-Fact = ℕ × ℕ
 
 abbrev pub both : Option (List Fact) → Option (List Fact) → Option (List Fact)
 both none d = none

@@ -1,10 +1,11 @@
 -- Document 01, section "The run": 003's figure 3 with the order fixed. Definitions alone, in the document's order.
 use Prim.Native.Nat.{ℕ, zero, suc}
-use mathlib.Core.Bool.{Bool, true, false, not, _||_, cond}
+use mathlib.Core.Bool.{Bool, true, false, not, cond}
 use mathlib.Core.List.{List, [], _∷_, _++_, map}
 use mathlib.Core.Option.{Option, none, some}
 use lib.ListN.{length}
 use lib.Dec.{eqb}
+use Rattle.sets.specs.Bits.{among}
 use Rattle.permutation.specs.Table.{Table, image, identity, after, inverted, ofSwaps, swappedAfter, disagreement}
 use Rattle.nominal.specs.Tree.{substitute}
 use Rattle.problem.specs.Problem.{Form, unit-form, atom-form, abstraction-form, pair-form, application-form, suspension-form, Node, formAt, Equal, Problem}
@@ -213,10 +214,6 @@ equationsFrom atoms i [] = []
 equationsFrom atoms i (e ∷ es) =
     record { number = i; left = record { images = identity atoms; node = e .left }; right = record { images = identity atoms; node = e .right } }
     ∷ equationsFrom atoms (suc i) es
-
-abbrev pub among : ℕ → List ℕ → Bool
-among X [] = false
-among X (Y ∷ l) = eqb X Y || among X l
 
 abbrev pub groundOf : Problem → Ground
 groundOf p = record { atoms = p .atoms; nodes = p .nodes; protected = λ X. among X (p .protected) }

@@ -8,6 +8,7 @@ use mathlib.Core.Bool.{Bool, true}
 use mathlib.Core.List.{List, [], _∷_, _++_, map, List·Memᴰ, List·Memᴰ·head, List·Memᴰ·tail}
 use mathlib.Core.Option.{Option, none, some}
 use lib.ListN.{length}
+use Rattle.sets.specs.Bits.{among}
 use Rattle.nominal.specs.Tree.{variable, Occurs, Substitution, substitute, composed}
 use Rattle.nominal.specs.Figure2.{Environment}
 use Rattle.nominal.specs.Solutions.{Every, given, Allowance, Meets, Equates, Solves, Holds, Satisfies, Idempotent, Unbound}
@@ -17,7 +18,7 @@ use Rattle.nominal.proofs.Solutions.{every-of, every-append, every-map, meets-e
 use Rattle.problem.specs.Problem.{Node, Equal, Fresh, Assumed, Problem}
 use Rattle.problem.specs.Readable.{Readable}
 use Rattle.run.specs.Meaning.{Side, Binding, Fact, tree, meaning, freshFor}
-use Rattle.run.specs.Run.{Equation, Subject, of-variable, of-side, Demand, Ground, valueOf, goes-on, step, among, End, limit, refused, finished, pending, bindings, demands, run, groundOf, runOf, equationsFrom}
+use Rattle.run.specs.Run.{Equation, Subject, of-variable, of-side, Demand, Ground, valueOf, goes-on, step, End, limit, refused, finished, pending, bindings, demands, run, groundOf, runOf, equationsFrom}
 use Rattle.run.specs.Answer.{Asked, subjectTree, askedFresh, askedAssumed, askedRaised, resolvedAll, facts, concluded, verdictOf}
 use Rattle.run.proofs.Trees.{NamedTree, named-node, named-side, named-substitute, tree-plain}
 use Rattle.run.proofs.Same.{same-symmetric}
