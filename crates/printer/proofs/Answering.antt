@@ -1,18 +1,17 @@
 -- The lines of the answer's bytes are the lines of the answer: the accepted line, a line for each binding, a line for each fact.
-use Prim.Native.Nat.{ℕ, zero, suc, _+_, _*_, _-_, _/_, _%_, _≤_, _<_}
+use Prim.Native.Nat.{ℕ, _+_, _*_, _/_, _%_, _≤_, _<_}
 use native.Mathlib.Omega.{arith}
-use mathlib.Core.Path.{_≡_, refl, sym, ap, _∙_}
+use mathlib.Core.Path.{_≡_, refl, ap, _∙_}
 use mathlib.Core.Logic.{_≢_}
-use mathlib.Core.Bool.{Bool, true, false, cond}
-use mathlib.Core.List.{List, [], _∷_, _++_, append-assoc, append-nil}
-use borrow.Author.Tests.{eq-eqb, ne-eqb, le-leb}
-use lib.Dec.{leb, eqb}
-use lib.ListN.{length, take, drop, length-append}
+use mathlib.Core.Bool.{true}
+use mathlib.Core.List.{List, [], _∷_, _++_, append-assoc}
+use borrow.Author.Tests.{ne-eqb, le-leb}
+use lib.ListN.{length, drop, length-append}
 use lib.Seq.{take-at, drop-at}
-use Rattle.field.specs.Field.{Field, cut, whole, front, bodied, byte, word, long, bytes2, bytes4, fieldBytes}
+use Rattle.field.specs.Field.{whole, front, bodied, long, bytes2, bytes4, fieldBytes}
 use Rattle.run.specs.Meaning.{Binding, Fact}
 use Rattle.run.specs.Answer.{bindingBytes, factBytes, answerBytes, Verdict, accepted, refusal, given, written}
-use Rattle.printer.specs.Lines.{known, fieldLine, answerLines, solverLines, acceptedLine, bindLine, freshLine, refusedLine}
+use Rattle.printer.specs.Lines.{known, fieldLine, answerLines, solverLines, acceptedLine, bindLine, freshLine}
 use Rattle.printer.specs.Printed.{bindLines, freshLines, verdictLines, SmallBindings}
 use Rattle.printer.proofs.Walking.{lines-more, lines-cut}
 

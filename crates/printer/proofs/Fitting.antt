@@ -1,22 +1,21 @@
 -- How much room the lines take: four bytes for each byte of an answer are enough, so 65,536 for what a solver with 16,384 bytes of output gives back.
 -- With room enough nothing is left out.
-use Prim.Native.Nat.{ℕ, zero, suc, _+_, _*_, _-_, _/_, _%_, _≤_, _<_, min}
+use Prim.Native.Nat.{ℕ, zero, suc, _+_, _*_, _-_, _/_, _%_, _≤_, _<_}
 use native.Mathlib.Decide.{decLt}
 use native.Mathlib.Nat.{min-eq-right}
 use native.Mathlib.Omega.{arith}
-use mathlib.Core.Path.{_≡_, refl, sym, ap, _∙_}
-use mathlib.Core.Logic.{_≢_, by-cases}
+use mathlib.Core.Path.{_≡_, refl, ap, _∙_}
+use mathlib.Core.Logic.{by-cases}
 use mathlib.Core.Bool.{Bool, true, false, cond}
-use mathlib.Core.List.{List, [], _∷_, _++_, append-assoc}
+use mathlib.Core.List.{List, [], _∷_, _++_}
 use borrow.Author.Tests.{eq-eqb, ne-eqb}
-use lib.Dec.{eqb}
 use lib.ListN.{length, take, drop, length-append, length-take, length-drop}
 use lib.Seq.{take-all, take-at, length-take-le}
 use Rattle.permutation.proofs.Swaps.{by-eq}
 use Rattle.field.specs.Field.{Field, cut, whole, front, byte, word, long, Bytes, Stands}
 use Rattle.field.proofs.Standing.{stands, bytes-take, bytes-drop, bytes-body}
 use Rattle.printer.specs.Placed.{pasted, reached, Placed}
-use Rattle.printer.specs.Lines.{decimal, spaced, images, acceptedWord, refusedWord, bindWord, freshWord, newline, acceptedLine, refusedLine, bindLine, freshLine, known, fieldLine, lineOf, linesFrom, answerLines, solverLines, judgeLine}
+use Rattle.printer.specs.Lines.{decimal, spaced, images, acceptedWord, refusedWord, bindWord, freshWord, newline, acceptedLine, refusedLine, bindLine, freshLine, known, fieldLine, lineOf, linesFrom, answerLines, solverLines}
 use Rattle.printer.proofs.Spelling.{decimal-small, decimal-more}
 use Rattle.printer.proofs.Walking.{steps-length, binding-length, fact-length, steps-line, binding-line, fact-line}
 

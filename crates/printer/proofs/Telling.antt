@@ -1,17 +1,16 @@
 -- Words compared byte by byte, and that each printed line is told by its word.
-use Prim.Native.Nat.{ℕ, suc, _+_, _≤_, _<_}
+use Prim.Native.Nat.{ℕ, _+_, _≤_, _<_}
 use native.Mathlib.Numerals.{add-one}
-use mathlib.Core.Path.{_≡_, refl, sym, ap, _∙_}
+use mathlib.Core.Path.{_≡_, refl}
 use mathlib.Core.Logic.{_≢_}
-use mathlib.Core.Bool.{Bool, true, false}
-use mathlib.Core.List.{List, [], _∷_, _++_}
+use mathlib.Core.Bool.{true, false}
+use mathlib.Core.List.{List, _++_}
 use borrow.Author.Tests.{eq-eqb, ne-eqb}
 use lib.ListN.{length, getD, drop, drop-of-length-le}
 use lib.Seq.{drop-cons}
 use Rattle.printer.specs.Lines.{acceptedLine, refusedLine, bindLine, freshLine, holdsWord, newline}
 use Rattle.printer.specs.Kinds.{begins, kindOf}
-use Rattle.printer.specs.declared.Kind.{Kind}
-use Rattle.printer.specs.declared.Kind.the-variants.{Accepted, Refused, Bind, Fresh, Holds, Other}
+use Rattle.printer.specs.declared.Kind.the-variants.{Accepted, Refused, Bind, Fresh, Holds}
 
 module _ (word s : List ℕ) (i : ℕ) where
   pub begins-end : length word ≤ i → begins (drop i word) (drop i s) ≡ true

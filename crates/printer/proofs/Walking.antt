@@ -6,12 +6,11 @@ use mathlib.Core.Path.{_≡_, refl, sym, ap, _∙_}
 use mathlib.Core.Bool.{Bool, true, false, cond}
 use mathlib.Core.List.{List, [], _∷_, _++_, append-assoc, append-nil}
 use borrow.Author.Tests.{eq-eqb, ne-eqb, eqb-true, leb-true}
-use lib.Dec.{leb, eqb}
+use lib.Dec.{eqb}
 use lib.ListN.{length, take, drop, length-drop}
 use lib.Seq.{length-take-le, take-all}
-use Rattle.field.specs.Field.{Field, cut, whole, front, byte, word, long, Stands}
+use Rattle.field.specs.Field.{Field, cut, whole, front, byte, word, long}
 use Rattle.field.specs.Front.{frontOf}
-use Rattle.field.specs.declared.AtFront.{AtFront}
 use Rattle.field.specs.declared.AtFront.the-variants.{Whole, Cut, End}
 use Rattle.field.proofs.Standing.{stands}
 use Rattle.field.proofs.Told.{at-whole, at-cut, at-end}

@@ -1,5 +1,5 @@
 -- The lines of what the solver finds, as data: what the printed bytes are held to. Definitions alone.
-use Prim.Native.Nat.{ℕ, _+_, _<_, _≤_}
+use Prim.Native.Nat.{ℕ, _+_, _<_}
 use mathlib.Core.List.{List, [], _∷_, _++_}
 use lib.ListN.{length}
 use Rattle.run.specs.Meaning.{Binding, Fact}

@@ -1,15 +1,12 @@
 -- `printer::begins` compares a text with a word: after i turns the first i bytes are the word's.
 use Prim.Native.Nat.{_≤_, _-_}
 use mathlib.Core.Path.{_≡_, refl, sym, _∙_}
-use native.Mathlib.Omega.{arith}
 use lib.ListN.{length, drop}
 use borrow.Author.Needs.{needs}
 use Rattle.printer.specs.Kinds.{begins}
 use Rattle.printer.proofs.Telling.{begins-end, begins-short, begins-other, begins-on}
 use Rattle.printer.proofs.begins.Statement.{statement}
 use Rattle.printer.proofs.begins.Tie as tie
-use Rattle.printer.proofs.begins.Reads as reads
-use Rattle.printer.proofs.begins.Lts as lts
 
 abbrev Inv-loop : tie.InvT-loop
 Inv-loop s word i₀ i = (i ≤ length word) × (begins word s ≡ begins (drop i word) (drop i s))
@@ -17,39 +14,30 @@ Inv-loop s word i₀ i = (i ≤ length word) × (begins word s ≡ begins (drop 
 abbrev μ-loop : tie.MeasureT-loop
 μ-loop s word i₀ i = length word - i
 
--- src/lib.rt:231:5
 loop-holds : tie.Need-loop-holds Inv-loop μ-loop
 loop-holds c = (search needs, refl)
 
--- src/lib.rt:233:13
 returns : tie.Need-returns Inv-loop μ-loop
 returns c = sym (c .before .before .loop .inv .1 ∙ begins-short _ _ _ (c .before .loop-test .taken) (c .if1 .taken))
 
--- src/lib.rt:235:12
 shared-slice-read-if2 : tie.Need-shared-slice-read-if2 Inv-loop μ-loop
 shared-slice-read-if2 c = search needs
 
--- src/lib.rt:235:20
 shared-slice-read-if2-2 : tie.Need-shared-slice-read-if2-2 Inv-loop μ-loop
 shared-slice-read-if2-2 c = search needs
 
--- src/lib.rt:236:13
 returns-2 : tie.Need-returns-2 Inv-loop μ-loop
 returns-2 c = sym (c .before .before .before .before .before .loop .inv .1 ∙ begins-other _ _ _ (c .before .before .before .before .loop-test .taken) (c .before .before .before .if1 .left) (c .if2 .taken))
 
--- src/lib.rt:238:9
 add-i : tie.Need-add-i Inv-loop μ-loop
 add-i c = search needs
 
--- src/lib.rt:231:5
 loop-less : tie.Need-loop-less Inv-loop μ-loop
 loop-less c = search needs
 
--- src/lib.rt:231:5
 loop-again : tie.Need-loop-again Inv-loop μ-loop
 loop-again c = (search needs, c .before .before .before .before .before .loop .inv .1 ∙ begins-on _ _ _ (c .before .before .before .before .loop-test .taken) (c .before .before .before .if1 .left) (c .if2 .left))
 
--- src/lib.rt:227:1
 returns-3 : tie.Need-returns-3 Inv-loop μ-loop
 returns-3 c = sym (c .before .loop .inv .1 ∙ begins-end _ _ _ (c .loop-test .left))
 

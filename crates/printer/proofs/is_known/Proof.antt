@@ -1,28 +1,21 @@
 -- `printer::is_known` tells by tag and length which fields an answer has: each way out is one tag.
-use mathlib.Core.Path.{refl}
 use borrow.Author.Tests.{eq-eqb, ne-eqb}
 use Rattle.printer.specs.Lines.{known}
 use Rattle.printer.proofs.is_known.Statement.{statement}
 use Rattle.printer.proofs.is_known.Tie as tie
-use Rattle.printer.proofs.is_known.Reads as reads
-use Rattle.printer.proofs.is_known.Lts as lts
 
--- src/lib.rt:114:9
 returns : tie.Need-returns
 unfolding known
 returns c = rw (eq-eqb _ _ (c .if1 .taken))
 
--- src/lib.rt:117:9
 returns-2 : tie.Need-returns-2
 unfolding known
 returns-2 c = rw (ne-eqb _ _ (c .before .if1 .left), eq-eqb _ _ (c .if2 .taken))
 
--- src/lib.rt:120:9
 returns-3 : tie.Need-returns-3
 unfolding known
 returns-3 c = rw (ne-eqb _ _ (c .before .before .if1 .left), ne-eqb _ _ (c .before .if2 .left), eq-eqb _ _ (c .if3 .taken))
 
--- src/lib.rt:110:1
 returns-4 : tie.Need-returns-4
 unfolding known
 returns-4 c = rw (ne-eqb _ _ (c .before .before .if1 .left), ne-eqb _ _ (c .before .if2 .left), ne-eqb _ _ (c .if3 .left))

@@ -1,79 +1,60 @@
 -- `printer::kind_of` tells a line by its word: each way out is one word that is there, and those before it that are not.
-use mathlib.Core.Path.{_≡_, refl, sym, _∙_}
+use mathlib.Core.Path.{sym, _∙_}
 use Rattle.printer.specs.Kinds.{kindOf}
 use borrow.Author.Needs.{needs}
 use Rattle.printer.proofs.kind_of.Statement.{statement}
 use Rattle.printer.proofs.kind_of.Tie as tie
-use Rattle.printer.proofs.kind_of.Reads as reads
-use Rattle.printer.proofs.kind_of.Lts as lts
-use Rattle.printer.proofs.begins.Reads as begins-reads
 
--- src/lib.rt:247:21
 slice-aggregate-begins : tie.Need-slice-aggregate-begins
 slice-aggregate-begins c = search needs
 
--- src/lib.rt:247:8
 begins-requires : tie.Need-begins-requires
 begins-requires c κs = search needs
 
--- src/lib.rt:248:9
 returns : tie.Need-returns
 unfolding kindOf
 returns c = rw (sym (c .before .begins .ensures) ∙ c .if1 .taken)
 
--- src/lib.rt:250:21
 slice-aggregate-begins-2 : tie.Need-slice-aggregate-begins-2
 slice-aggregate-begins-2 c = search needs
 
--- src/lib.rt:250:8
 begins-requires-2 : tie.Need-begins-requires-2
 begins-requires-2 c κs = search needs
 
--- src/lib.rt:251:9
 returns-2 : tie.Need-returns-2
 unfolding kindOf
 returns-2 c = rw (sym (c .before .before .before .before .begins .ensures) ∙ c .before .before .before .if1 .left, sym (c .before .begins2 .ensures) ∙ c .if2 .taken)
 
--- src/lib.rt:253:21
 slice-aggregate-begins-3 : tie.Need-slice-aggregate-begins-3
 slice-aggregate-begins-3 c = search needs
 
--- src/lib.rt:253:8
 begins-requires-3 : tie.Need-begins-requires-3
 begins-requires-3 c κs = search needs
 
--- src/lib.rt:254:9
 returns-3 : tie.Need-returns-3
 unfolding kindOf
 returns-3 c = rw (sym (c .before .before .before .before .before .before .before .begins .ensures) ∙ c .before .before .before .before .before .before .if1 .left, sym (c .before .before .before .before .begins2 .ensures) ∙ c .before .before .before .if2 .left, sym (c .before .begins3 .ensures) ∙ c .if3 .taken)
 
--- src/lib.rt:256:21
 slice-aggregate-begins-4 : tie.Need-slice-aggregate-begins-4
 slice-aggregate-begins-4 c = search needs
 
--- src/lib.rt:256:8
 begins-requires-4 : tie.Need-begins-requires-4
 begins-requires-4 c κs = search needs
 
--- src/lib.rt:257:9
 returns-4 : tie.Need-returns-4
 unfolding kindOf
 returns-4 c = rw (sym (c .before .before .before .before .before .before .before .before .before .before .begins .ensures) ∙ c .before .before .before .before .before .before .before .before .before .if1 .left, sym (c .before .before .before .before .before .before .before .begins2 .ensures) ∙ c .before .before .before .before .before .before .if2 .left, sym (c .before .before .before .before .begins3 .ensures) ∙ c .before .before .before .if3 .left, sym (c .before .begins4 .ensures) ∙ c .if4 .taken)
 
--- src/lib.rt:259:21
 slice-aggregate-begins-5 : tie.Need-slice-aggregate-begins-5
 slice-aggregate-begins-5 c = search needs
 
--- src/lib.rt:259:8
 begins-requires-5 : tie.Need-begins-requires-5
 begins-requires-5 c κs = search needs
 
--- src/lib.rt:260:9
 returns-5 : tie.Need-returns-5
 unfolding kindOf
 returns-5 c = rw (sym (c .before .before .before .before .before .before .before .before .before .before .before .before .before .begins .ensures) ∙ c .before .before .before .before .before .before .before .before .before .before .before .before .if1 .left, sym (c .before .before .before .before .before .before .before .before .before .before .begins2 .ensures) ∙ c .before .before .before .before .before .before .before .before .before .if2 .left, sym (c .before .before .before .before .before .before .before .begins3 .ensures) ∙ c .before .before .before .before .before .before .if3 .left, sym (c .before .before .before .before .begins4 .ensures) ∙ c .before .before .before .if4 .left, sym (c .before .begins5 .ensures) ∙ c .if5 .taken)
 
--- src/lib.rt:244:1
 returns-6 : tie.Need-returns-6
 unfolding kindOf
 returns-6 c = rw (sym (c .before .before .before .before .before .before .before .before .before .before .before .before .before .begins .ensures) ∙ c .before .before .before .before .before .before .before .before .before .before .before .before .if1 .left, sym (c .before .before .before .before .before .before .before .before .before .before .begins2 .ensures) ∙ c .before .before .before .before .before .before .before .before .before .if2 .left, sym (c .before .before .before .before .before .before .before .begins3 .ensures) ∙ c .before .before .before .before .before .before .if3 .left, sym (c .before .before .before .before .begins4 .ensures) ∙ c .before .before .before .if4 .left, sym (c .before .begins5 .ensures) ∙ c .if5 .left)

@@ -10,9 +10,6 @@ use Rattle.printer.specs.Placed.{Placed}
 use Rattle.printer.proofs.Placing.{placed-past, placed-nothing, placed-length, _then_}
 use Rattle.printer.proofs.put.Statement.{statement}
 use Rattle.printer.proofs.put.Tie as tie
-use Rattle.printer.proofs.put.Reads as reads
-use Rattle.printer.proofs.put.Lts as lts
-use Rattle.printer.proofs.put_byte.Reads as put-byte-reads
 
 abbrev Inv-loop : tie.InvT-loop
 Inv-loop out₀ at s end₀ i₀ out end i = (i ≤ length s) × Placed out₀ at (take i s) end out
@@ -20,40 +17,31 @@ Inv-loop out₀ at s end₀ i₀ out end i = (i ≤ length s) × Placed out₀ a
 abbrev μ-loop : tie.MeasureT-loop
 μ-loop out₀ at s end₀ i₀ out end i = length s - i
 
--- src/lib.rt:31:9
 returns : tie.Need-returns Inv-loop μ-loop
 returns c = placed-past _ _ _ (c .if1 .taken)
 
--- src/lib.rt:35:5
 loop-holds : tie.Need-loop-holds Inv-loop μ-loop
 loop-holds c = (search needs, placed-nothing _ _ (omega arith))
 
--- src/lib.rt:36:34
 shared-slice-read-put-byte : tie.Need-shared-slice-read-put-byte Inv-loop μ-loop
 shared-slice-read-put-byte c = search needs
 
--- src/lib.rt:36:9
 put-byte-requires : tie.Need-put-byte-requires Inv-loop μ-loop
 put-byte-requires c κs = search needs
 
--- src/lib.rt:37:9
 add-i : tie.Need-add-i Inv-loop μ-loop
 add-i c = search needs
 
--- src/lib.rt:35:5
 loop-less : tie.Need-loop-less Inv-loop μ-loop
 loop-less c = search needs
 
--- src/lib.rt:35:5
 loop-again : tie.Need-loop-again Inv-loop μ-loop
 loop-again c = let h : c .before .before .before .before .before .before .loop .i < length (c .before .before .before .before .before .before .before .before .before .before .args .s .now) = omega arith in
     (search needs, rw (add-one (c .before .before .before .before .before .before .loop .i), take-suc (c .before .before .before .before .before .before .before .before .before .before .args .s .now) (c .before .before .before .before .before .before .loop .i) 0 h) (c .before .before .before .before .before .before .loop .inv .1 then c .before .before .put-byte .ensures))
 
--- src/lib.rt:27:1
 same-length : tie.Need-same-length Inv-loop μ-loop
 same-length c = placed-length (c .before .loop .inv .1)
 
--- src/lib.rt:27:1
 returns-2 : tie.Need-returns-2 Inv-loop μ-loop
 returns-2 c = let e : c .before .loop .i ≡ length (c .before .before .before .before .before .args .s .now) = omega arith in
     rw (take-length (c .before .before .before .before .before .args .s .now)) at (rw e at (c .before .loop .inv .1))

@@ -4,36 +4,25 @@ use Rattle.printer.proofs.Placing.{_then_}
 use borrow.Author.Needs.{needs}
 use Rattle.printer.proofs.put_accepted.Statement.{statement}
 use Rattle.printer.proofs.put_accepted.Tie as tie
-use Rattle.printer.proofs.put_accepted.Reads as reads
-use Rattle.printer.proofs.put_accepted.Lts as lts
-use Rattle.printer.proofs.put.Reads as put-reads
-use Rattle.printer.proofs.put_decimal.Reads as put-decimal-reads
 
--- src/lib.rt:77:26
 slice-aggregate-put : tie.Need-slice-aggregate-put
 slice-aggregate-put c = search needs
 
--- src/lib.rt:77:9
 put-requires : tie.Need-put-requires
 put-requires c κs = search needs
 
--- src/lib.rt:78:9
 put-decimal-requires : tie.Need-put-decimal-requires
 put-decimal-requires c κs = search needs
 
--- src/lib.rt:79:17
 slice-aggregate-put-2 : tie.Need-slice-aggregate-put-2
 slice-aggregate-put-2 c = search needs
 
--- src/lib.rt:79:5
 put-requires-2 : tie.Need-put-requires-2
 put-requires-2 c κs = search needs
 
--- src/lib.rt:74:1
 same-length : tie.Need-same-length
 same-length c = search needs
 
--- src/lib.rt:74:1
 returns : tie.Need-returns
 unfolding acceptedLine
 returns c = c .before .before .before .before .before .before .before .before .before .before .before .put .ensures then c .before .before .before .before .before .before .before .put-decimal .ensures then c .before .before .put2 .ensures

@@ -1,8 +1,8 @@
 -- `printer::put_answer` writes the lines of an answer field by field and passes the rest on.
-use Prim.Native.Nat.{_+_, _-_, _≤_}
+use Prim.Native.Nat.{_+_, _≤_}
 use native.Mathlib.Omega.{arith}
-use mathlib.Core.Path.{_≡_, refl, sym, _∙_, ap}
-use mathlib.Core.Bool.{true, false}
+use mathlib.Core.Path.{_≡_, sym, _∙_}
+use mathlib.Core.Bool.{true}
 use lib.ListN.{length, length-drop}
 use borrow.Author.Needs.{needs}
 use borrow.Author.Tests.{not-true, not-false}
@@ -13,12 +13,6 @@ use Rattle.printer.proofs.Placing.{placed-past, placed-length}
 use Rattle.printer.proofs.Walking.{Midway, midway-start, midway-stop, midway-cut, midway-unknown, midway-more, whole-fits, body-length, passed-on}
 use Rattle.printer.proofs.put_answer.Statement.{statement}
 use Rattle.printer.proofs.put_answer.Tie as tie
-use Rattle.printer.proofs.put_answer.Reads as reads
-use Rattle.printer.proofs.put_answer.Lts as lts
-use Rattle.field.proofs.body.Reads as body-reads
-use Rattle.field.proofs.front.Reads as front-reads
-use Rattle.printer.proofs.is_known.Reads as is-known-reads
-use Rattle.printer.proofs.put_field.Reads as put-field-reads
 
 abbrev Inv-loop : tie.InvT-loop
 Inv-loop out₀ at answer end₀ rest₀ out end rest = Midway out₀ at answer out end rest
@@ -37,87 +31,66 @@ fits c = whole-fits _ _ _ _ _ _ (c .before .before .before .loop .inv) _ _ (is-w
 is-known : (c : tie.Else2 Inv-loop μ-loop) → known (c .before .before .before .f .given .0 .0) (c .before .before .before .f .given .0 .1 .0) ≡ true
 is-known c = sym (c .before .is-known .ensures) ∙ not-false _ (c .if2 .left)
 
--- src/lib.rt:143:9
 returns : tie.Need-returns Inv-loop μ-loop
 returns c = placed-past _ _ _ (c .if1 .taken)
 
--- src/lib.rt:147:5
 loop-holds : tie.Need-loop-holds Inv-loop μ-loop
 loop-holds c = midway-start _ _ _ (omega arith)
 
--- src/lib.rt:148:13
 front-requires : tie.Need-front-requires Inv-loop μ-loop
 front-requires c κs = search needs
 
--- src/lib.rt:151:17
 enum-told : tie.Need-enum-told Inv-loop μ-loop
 enum-told c = search needs
 
--- src/lib.rt:151:17
 same-length : tie.Need-same-length Inv-loop μ-loop
 same-length c = placed-length (c .before .before .before .loop .inv .so-far)
 
--- src/lib.rt:151:17
 returns-2 : tie.Need-returns-2 Inv-loop μ-loop
 returns-2 c = midway-stop _ _ _ _ _ _ (c .before .before .before .loop .inv) (sym (c .before .before .front .ensures) ∙ c .enum-told .given .1)
 
--- src/lib.rt:154:17
 enum-told-2 : tie.Need-enum-told-2 Inv-loop μ-loop
 enum-told-2 c = search needs
 
--- src/lib.rt:154:17
 same-length-2 : tie.Need-same-length-2 Inv-loop μ-loop
 same-length-2 c = placed-length (c .before .before .before .loop .inv .so-far)
 
--- src/lib.rt:154:17
 returns-3 : tie.Need-returns-3 Inv-loop μ-loop
 returns-3 c = midway-cut _ _ _ _ _ _ (c .before .before .before .loop .inv) (sym (c .before .before .front .ensures) ∙ c .enum-told2 .given .1)
 
--- src/lib.rt:156:28
 enum-known-f : tie.Need-enum-known-f Inv-loop μ-loop
 enum-known-f c = search needs
 
--- src/lib.rt:157:21
 is-known-requires : tie.Need-is-known-requires Inv-loop μ-loop
 is-known-requires c κs = search needs
 
--- src/lib.rt:158:21
 same-length-3 : tie.Need-same-length-3 Inv-loop μ-loop
 same-length-3 c = placed-length (c .before .before .before .before .before .before .loop .inv .so-far)
 
--- src/lib.rt:158:21
 returns-4 : tie.Need-returns-4 Inv-loop μ-loop
 returns-4 c = midway-unknown _ _ _ _ _ _ (c .before .before .before .before .before .before .loop .inv) _ _ (is-whole (c .before .before .before)) (sym (c .before .is-known .ensures) ∙ not-true _ (c .if2 .taken))
 
--- src/lib.rt:160:21
 body-requires : tie.Need-body-requires Inv-loop μ-loop
 body-requires c κs = fits (c .before .before .before)
 
--- src/lib.rt:161:17
 put-field-requires : tie.Need-put-field-requires Inv-loop μ-loop
 put-field-requires c κs = rw (c .before .body .ensures, body-length _ _ _ _ _ _ (c .before .before .before .before .before .before .before .before .loop .inv) _ _ (is-whole (c .before .before .before .before .before))) (is-known (c .before .before))
 
--- src/lib.rt:162:30
 add-rest : tie.Need-add-rest Inv-loop μ-loop
 add-rest c = omega (arith, fits (c .before .before .before .before .before .before .before .before), c .before .before .before .before .before .before .before .before .before .before .before .loop .inv .shorter, c .before .before .before .before .before .before .before .before .before .before .before .before .before .before .before .good .1 .1 .0 .0)
 
--- src/lib.rt:162:24
 sub-rest : tie.Need-sub-rest Inv-loop μ-loop
 sub-rest c = omega (arith, fits (c .before .before .before .before .before .before .before .before))
 
--- src/lib.rt:162:24
 part-rest-start : tie.Need-part-rest-start Inv-loop μ-loop
 part-rest-start c = omega (arith, fits (c .before .before .before .before .before .before .before .before))
 
--- src/lib.rt:162:24
 part-rest-end : tie.Need-part-rest-end Inv-loop μ-loop
 part-rest-end c = search needs
 
--- src/lib.rt:147:5
 loop-less : tie.Need-loop-less Inv-loop μ-loop
 loop-less c = rw (passed-on (3 + c .before .before .before .before .before .before .before .before .before .f .given .0 .1 .0) (c .before .before .before .before .before .before .before .before .before .before .before .before .loop .rest .now)) (omega (arith, fits (c .before .before .before .before .before .before .before .before .before), length-drop (3 + c .before .before .before .before .before .before .before .before .before .f .given .0 .1 .0) (c .before .before .before .before .before .before .before .before .before .before .before .before .loop .rest .now)))
 
--- src/lib.rt:147:5
 loop-again : tie.Need-loop-again Inv-loop μ-loop
 loop-again c = rw (passed-on (3 + c .before .before .before .before .before .before .before .before .before .f .given .0 .1 .0) (c .before .before .before .before .before .before .before .before .before .before .before .before .loop .rest .now))
     (midway-more _ _ _ _ _ _ (c .before .before .before .before .before .before .before .before .before .before .before .before .loop .inv) _ _ (is-whole (c .before .before .before .before .before .before .before .before .before)) _ _ (is-known (c .before .before .before .before .before .before)) (rw (c .before .before .before .before .before .body .ensures) at (c .before .before .before .put-field .ensures)))

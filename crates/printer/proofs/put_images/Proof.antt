@@ -11,9 +11,6 @@ use Rattle.printer.proofs.Placing.{placed-past, placed-nothing, placed-
 use Rattle.printer.proofs.Spelling.{images-more}
 use Rattle.printer.proofs.put_images.Statement.{statement}
 use Rattle.printer.proofs.put_images.Tie as tie
-use Rattle.printer.proofs.put_images.Reads as reads
-use Rattle.printer.proofs.put_images.Lts as lts
-use Rattle.printer.proofs.put_spaced.Reads as put-spaced-reads
 
 abbrev Inv-loop : tie.InvT-loop
 Inv-loop out₀ at s end₀ i₀ out end i = (i ≤ length s) × Placed out₀ at (images (take i s)) end out
@@ -21,45 +18,35 @@ Inv-loop out₀ at s end₀ i₀ out end i = (i ≤ length s) × Placed out₀ a
 abbrev μ-loop : tie.MeasureT-loop
 μ-loop out₀ at s end₀ i₀ out end i = length s - i
 
--- src/lib.rt:63:9
 returns : tie.Need-returns Inv-loop μ-loop
 returns c = placed-past _ _ _ (c .if1 .taken)
 
--- src/lib.rt:67:5
 loop-holds : tie.Need-loop-holds Inv-loop μ-loop
 unfolding images
 loop-holds c = (search needs, placed-nothing _ _ (omega arith))
 
--- src/lib.rt:68:36
 shared-slice-read-put-spaced : tie.Need-shared-slice-read-put-spaced Inv-loop μ-loop
 shared-slice-read-put-spaced c = search needs
 
--- src/lib.rt:68:36
 cast-put-spaced : tie.Need-cast-put-spaced Inv-loop μ-loop
 cast-put-spaced c = omega (arith, c .shared-slice-known2 .given (c .before .before .before .loop .i))
 
--- src/lib.rt:68:9
 put-spaced-requires : tie.Need-put-spaced-requires Inv-loop μ-loop
 put-spaced-requires c κs = search needs
 
--- src/lib.rt:69:9
 add-i : tie.Need-add-i Inv-loop μ-loop
 add-i c = search needs
 
--- src/lib.rt:67:5
 loop-less : tie.Need-loop-less Inv-loop μ-loop
 loop-less c = search needs
 
--- src/lib.rt:67:5
 loop-again : tie.Need-loop-again Inv-loop μ-loop
 loop-again c = let h : c .before .before .before .before .before .before .loop .i < length (c .before .before .before .before .before .before .before .before .before .before .args .s .now) = omega arith in
     (search needs, rw (images-more (c .before .before .before .before .before .before .before .before .before .before .args .s .now) (c .before .before .before .before .before .before .loop .i) h) (c .before .before .before .before .before .before .loop .inv .1 then c .before .before .put-spaced .ensures))
 
--- src/lib.rt:59:1
 same-length : tie.Need-same-length Inv-loop μ-loop
 same-length c = placed-length (c .before .loop .inv .1)
 
--- src/lib.rt:59:1
 returns-2 : tie.Need-returns-2 Inv-loop μ-loop
 returns-2 c = let e : c .before .loop .i ≡ length (c .before .before .before .before .before .args .s .now) = omega arith in
     rw (take-length (c .before .before .before .before .before .args .s .now)) at (rw e at (c .before .loop .inv .1))

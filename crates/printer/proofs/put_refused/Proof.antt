@@ -4,41 +4,28 @@ use Rattle.printer.proofs.Placing.{_then_}
 use borrow.Author.Needs.{needs}
 use Rattle.printer.proofs.put_refused.Statement.{statement}
 use Rattle.printer.proofs.put_refused.Tie as tie
-use Rattle.printer.proofs.put_refused.Reads as reads
-use Rattle.printer.proofs.put_refused.Lts as lts
-use Rattle.printer.proofs.put.Reads as put-reads
-use Rattle.printer.proofs.put_decimal.Reads as put-decimal-reads
-use Rattle.printer.proofs.put_spaced.Reads as put-spaced-reads
 
--- src/lib.rt:85:26
 slice-aggregate-put : tie.Need-slice-aggregate-put
 slice-aggregate-put c = search needs
 
--- src/lib.rt:85:9
 put-requires : tie.Need-put-requires
 put-requires c κs = search needs
 
--- src/lib.rt:86:9
 put-decimal-requires : tie.Need-put-decimal-requires
 put-decimal-requires c κs = search needs
 
--- src/lib.rt:87:9
 put-spaced-requires : tie.Need-put-spaced-requires
 put-spaced-requires c κs = search needs
 
--- src/lib.rt:88:17
 slice-aggregate-put-2 : tie.Need-slice-aggregate-put-2
 slice-aggregate-put-2 c = search needs
 
--- src/lib.rt:88:5
 put-requires-2 : tie.Need-put-requires-2
 put-requires-2 c κs = search needs
 
--- src/lib.rt:82:1
 same-length : tie.Need-same-length
 same-length c = search needs
 
--- src/lib.rt:82:1
 returns : tie.Need-returns
 unfolding refusedLine
 returns c = c .before .before .before .before .before .before .before .before .before .before .before .before .before .before .before .put .ensures then c .before .before .before .before .before .before .before .before .before .before .before .put-decimal .ensures then c .before .before .before .before .before .before .before .put-spaced .ensures then c .before .before .put2 .ensures

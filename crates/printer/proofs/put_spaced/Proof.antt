@@ -4,28 +4,19 @@ use Rattle.printer.proofs.Placing.{_then_}
 use borrow.Author.Needs.{needs}
 use Rattle.printer.proofs.put_spaced.Statement.{statement}
 use Rattle.printer.proofs.put_spaced.Tie as tie
-use Rattle.printer.proofs.put_spaced.Reads as reads
-use Rattle.printer.proofs.put_spaced.Lts as lts
-use Rattle.printer.proofs.put.Reads as put-reads
-use Rattle.printer.proofs.put_decimal.Reads as put-decimal-reads
 
--- src/lib.rt:55:26
 slice-aggregate-put : tie.Need-slice-aggregate-put
 slice-aggregate-put c = search needs
 
--- src/lib.rt:55:9
 put-requires : tie.Need-put-requires
 put-requires c κs = search needs
 
--- src/lib.rt:56:5
 put-decimal-requires : tie.Need-put-decimal-requires
 put-decimal-requires c κs = search needs
 
--- src/lib.rt:52:1
 same-length : tie.Need-same-length
 same-length c = search needs
 
--- src/lib.rt:52:1
 returns : tie.Need-returns
 unfolding spaced
 returns c = c .before .before .before .before .before .before .put .ensures then c .before .before .put-decimal .ensures
