@@ -1,6 +1,6 @@
 -- Which pairs the demands are asked as: those of tags 21 and 22 and those raised, each list by itself, and lists put together.
 use Prim.Native.Nat.{ℕ}
-use mathlib.Core.Path.{_≡_, refl, sym, _∙_, ap}
+use mathlib.Core.Path.{_≡_, refl, sym, ap}
 use mathlib.Core.Logic.{_↔_, _⊎_, inl, inr}
 use mathlib.Core.List.{List, [], _∷_, _++_, map, List·Memᴰ, List·Memᴰ·head, List·Memᴰ·tail, Memᴰ·append-left, Memᴰ·append-right, List·Memᴰ·append-cases}
 use Rattle.permutation.specs.Table.{image, inverted, swapsOf}
@@ -8,10 +8,9 @@ use Rattle.nominal.specs.Tree.{variable}
 use Rattle.nominal.specs.Solutions.{Every}
 use Rattle.nominal.proofs.Tree.{permute-nil}
 use Rattle.nominal.proofs.Solutions.{every-at}
-use Rattle.problem.specs.Problem.{Node, Fresh, Assumed}
+use Rattle.problem.specs.Problem.{Node}
 use Rattle.run.specs.Meaning.{Side, tree, sideTree}
-use Rattle.run.specs.Run.{Subject, of-side, Demand}
-use Rattle.run.specs.Answer.{Asked, subjectTree, askedFresh, askedAssumed, askedRaised}
+use Rattle.run.specs.Answer.{Asked}
 use Rattle.run.proofs.Trees.{Permuting}
 use Rattle.fresh.specs.Pairs.{Pair, of-node, of-variable, AskedAs, Asks}
 use Rattle.fresh.proofs.Right.{act-back}

@@ -4,26 +4,25 @@
 use Prim.Native.Nat.{ℕ, zero, suc, _+_, _≤_, _<_}
 use native.Mathlib.Omega.{arith}
 use mathlib.Core.Path.{_≡_, refl, sym, _∙_, ap}
-use mathlib.Core.Logic.{_≢_, _↔_}
-use mathlib.Core.Bool.{Bool, true, false}
-use mathlib.Core.List.{List, [], _∷_, _++_, List·Memᴰ}
+use mathlib.Core.Logic.{_↔_}
+use mathlib.Core.Bool.{true}
+use mathlib.Core.List.{List, List·Memᴰ}
 use mathlib.Core.Option.{Option, none, some}
 use lib.ListN.{length}
 use Rattle.permutation.specs.Swaps.{Swaps, act, inverse}
 use Rattle.permutation.specs.Table.{Table, image, inverted, after, ofSwaps, swapsOf}
-use Rattle.permutation.proofs.Swaps.{act-inverse}
-use Rattle.permutation.proofs.Table.{image-inverted, swapsOf-inverted, act-swapsOf}
-use Rattle.nominal.specs.Tree.{Tree, unit, atom, abstraction, pair, application, suspension, variable, permute, size, Substitution, substitute, composed}
-use Rattle.nominal.specs.Figure2.{Environment, _⊢_#_, #-unit, #-suspension, #-atom, #-pair, #-function-symbol}
+use Rattle.permutation.proofs.Table.{swapsOf-inverted}
+use Rattle.nominal.specs.Tree.{atom, pair, variable, permute, size, Substitution, substitute, composed}
+use Rattle.nominal.specs.Figure2.{Environment, _⊢_#_, #-unit, #-pair, #-function-symbol}
 use Rattle.nominal.specs.Solutions.{Every, Meets, Holds}
 use Rattle.nominal.proofs.Tree.{permute-nil, size-permute, substitute-permute, substitute-variable, substitute-agree}
 use Rattle.nominal.proofs.Figure2.{fresh-atom, fresh-abstraction, fresh-pair, fresh-application, fresh-suspension}
-use Rattle.nominal.proofs.Laws.{fresh-from, fresh-to, fresh-inverse}
+use Rattle.nominal.proofs.Laws.{fresh-inverse}
 use Rattle.nominal.proofs.Solutions.{every-at, every-of, every-map}
 use Rattle.problem.specs.Problem.{Node, unit-form, atom-form, abstraction-form, pair-form, application-form, suspension-form, formAt}
 use Rattle.problem.specs.Readable.{Named}
 use Rattle.run.specs.Meaning.{Side, tree, sideTree, Binding, Fact}
-use Rattle.run.specs.Run.{Ground, permuted, top, valueOf, under, replaced, resolvedIn, resolved}
+use Rattle.run.specs.Run.{Ground, permuted, top, valueOf, under, resolvedIn, resolved}
 use Rattle.run.specs.Answer.{Asked, resolvedAll, hasFact}
 use Rattle.run.proofs.Trees.{built, tree-built, Permuting, permuting-inverted, Fits, act-permuting, plain}
 use Rattle.run.proofs.Bindings.{by-value, Settled, Meant}

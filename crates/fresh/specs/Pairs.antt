@@ -1,6 +1,6 @@
 -- What resolving the demands looks at: pairs of an atom and a node, and pairs of an atom and a variable. 003's freshness rules, read from the
 -- conclusion to the premiss, lead from pair to pair; each pair is looked at once, however many ways lead to it. Definitions alone.
-use Prim.Native.Nat.{ℕ, _<_}
+use Prim.Native.Nat.{ℕ}
 use mathlib.Core.Path.{_≡_}
 use mathlib.Core.Logic.{_≢_, _↔_}
 use mathlib.Core.List.{List, List·Memᴰ}
@@ -8,7 +8,6 @@ use mathlib.Core.Option.{Option, some}
 use Rattle.permutation.specs.Swaps.{Swaps, act, inverse}
 use Rattle.permutation.specs.Table.{image, inverted}
 use Rattle.nominal.specs.Tree.{permute, variable}
-use Rattle.nominal.specs.Solutions.{Every}
 use Rattle.problem.specs.Problem.{Node, atom-form, abstraction-form, pair-form, application-form, suspension-form, formAt}
 use Rattle.run.specs.Meaning.{Side, tree}
 use Rattle.run.specs.Answer.{Asked}
