@@ -1,0 +1,44 @@
+-- The demands of the file on top of those that were raised, in the tables of sets. Definitions alone; their laws are in proofs/.
+use Prim.Native.Nat.{ℕ, zero, suc, _<_}
+use mathlib.Core.Path.{_≡_}
+use mathlib.Core.Bool.{Bool, false, _&&_, _||_}
+use mathlib.Core.List.{List, [], _∷_}
+use lib.ListN.{length, getD, set}
+use lib.Dec.{eqb}
+use Rattle.sets.specs.Bits.{member, union, inserted}
+use Rattle.problem.specs.Problem.{Fresh, Problem}
+use Rattle.problem.specs.Readable.{Readable}
+use Rattle.problem.specs.Held.{problemOf}
+use Rattle.problem.specs.Look.{FreshnessStands}
+
+-- Tag 21, "freshness: atom, node": one atom more for the node, field by field.
+unfoldable pub withAtom : ℕ → ℕ → List ℕ → List ℕ
+withAtom n a sets = set sets n (inserted 32 (getD sets n 0) a)
+
+unfoldable pub freshened : List Fresh → List ℕ → List ℕ
+freshened [] sets = sets
+freshened (d ∷ ds) sets = freshened ds (withAtom (d .node) (d .atom) sets)
+
+-- Whether a field of the list asks that atom a is fresh for node n.
+abbrev pub asksFresh : List Fresh → ℕ → ℕ → Bool
+asksFresh [] a n = false
+asksFresh (d ∷ ds) a n = (eqb (d .node) n && eqb (d .atom) a) || asksFresh ds a n
+
+-- Tag 22, "assumption: atom, variable": of the first n variables the atoms assumed fresh are demanded too.
+unfoldable pub joined : ℕ → List ℕ → List ℕ → List ℕ
+joined zero more sets = sets
+joined (suc n) more sets = set (joined n more sets) n (union (getD sets n 0) (getD more n 0))
+
+-- Each freshness field stands where the table says, and its names are there.
+pub record FreshnessHeld (s places : List ℕ) : Type 0 where
+  pub readable : Readable (problemOf s)
+  pub stands : (k : ℕ) → k < length (problemOf s .freshness) → FreshnessStands s places k
+
+-- What adding does: the table's whole content, and who is in it.
+pub record FreshnessAdded (ds : List Fresh) (before after : List ℕ) : Type 0 where
+  pub content : after ≡ freshened ds before
+  pub marks : (n a : ℕ) → member (getD after n 0) a ≡ (asksFresh ds a n || member (getD before n 0) a)
+
+pub record AssumptionsAdded (variables : ℕ) (assumed before after : List ℕ) : Type 0 where
+  pub content : after ≡ joined variables assumed before
+  pub marks : (X a : ℕ) → X < variables → member (getD after X 0) a ≡ (member (getD assumed X 0) a || member (getD before X 0) a)
