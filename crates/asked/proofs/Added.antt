@@ -78,13 +78,13 @@ joined-none more sets = refl
 pub length-joined : (n : ℕ) (more sets : List ℕ) → length (joined n more sets) ≡ length sets
 unfolding joined
 length-joined zero more sets = refl
-length-joined (suc n) more sets = length-set (joined n more sets) n (union (getD sets n 0) (getD more n 0)) ∙ length-joined n more sets
+length-joined (suc n) more sets = simp length-set (length-joined n more sets)
 
 pub joined-past : (n : ℕ) (more sets : List ℕ) (X : ℕ) → n ≤ X → getD (joined n more sets) X 0 ≡ getD sets X 0
 unfolding joined
 joined-past zero more sets X h = refl
 joined-past (suc n) more sets X h =
-    getD-set-other (joined n more sets) n X (union (getD sets n 0) (getD more n 0)) 0 (λ e. omega arith) ∙ joined-past n more sets X (omega arith)
+    getD-set-other (joined n more sets) n X _ 0 (λ e. omega arith) ∙ joined-past n more sets X (omega arith)
 
 pub joined-suc : (n : ℕ) (more sets : List ℕ) → set (joined n more sets) n (union (getD (joined n more sets) n 0) (getD more n 0)) ≡ joined (n + 1) more sets
 unfolding joined
