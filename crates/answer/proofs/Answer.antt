@@ -1,12 +1,10 @@
 -- The answer as a whole: how long it is, its bindings' bytes one by one, and what the lent output holds in the end.
-use Prim.Native.Nat.{ℕ, zero, suc, _+_, _-_, _*_, _/_, _%_, _≤_, _<_}
+use Prim.Native.Nat.{ℕ, zero, suc, _+_, _*_, _/_, _%_, _≤_, _<_}
 use native.Mathlib.Nat.{zero-mul, suc-mul}
 use native.Mathlib.Omega.{arith}
 use mathlib.Core.Path.{_≡_, refl, sym, _∙_, ap, ap₂}
-use mathlib.Core.Bool.{true, false}
 use mathlib.Core.List.{List, [], _∷_, _++_, map}
 use lib.ListN.{length, getD, take, drop, length-append, drop-of-length-le}
-use lib.Dec.{leb}
 use borrow.Author.Tests.{le-leb, lt-leb}
 use Rattle.permutation.specs.Table.{Table}
 use Rattle.permutation.specs.Store.{table, ofTable}
@@ -18,10 +16,10 @@ use Rattle.field.specs.Field.{bytes2, bytes4, fieldBytes}
 use Rattle.bindings.specs.Bindings.{Bindings, tables, bindingAt, bindingsOf}
 use Rattle.bindings.proofs.Bindings.{keeps-variable, keeps-few, length-bindingsOf, bindingsOf-at}
 use Rattle.run.specs.Meaning.{Binding, Fact}
-use Rattle.run.specs.Answer.{bindingBytes, factBytes, answerBytes, Result, written}
+use Rattle.run.specs.Answer.{bindingBytes, factBytes, answerBytes, written}
 use Rattle.answer.specs.declared.Given.{Given}
 use Rattle.answer.specs.Written.{Wrote, resultOf}
-use Rattle.answer.specs.Facts.{Lent, factsIn}
+use Rattle.answer.specs.Facts.{Lent}
 use Rattle.answer.proofs.Writing.{wrote-all}
 use Rattle.answer.proofs.Facts.{length-factBytes}
 

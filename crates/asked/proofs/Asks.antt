@@ -1,21 +1,21 @@
 -- What the tables of sets ask for: exactly the demands raised, then those and the file's.
-use Prim.Native.Nat.{ℕ, _+_, _^_, _≤_, _<_}
+use Prim.Native.Nat.{ℕ, _^_, _<_}
 use native.Mathlib.Omega.{arith}
 use mathlib.Core.Path.{_≡_, refl, sym, _∙_, ap, ap₂}
 use mathlib.Core.Logic.{_↔_, _⊎_, inl, inr, ⊎-elim}
 use mathlib.Core.Bool.{Bool, true, false, _&&_, _||_, cond}
-use mathlib.Core.List.{List, [], _∷_, _++_, map, List·Memᴰ, List·Memᴰ·head, List·Memᴰ·tail}
+use mathlib.Core.List.{List, [], _∷_, _++_, List·Memᴰ, List·Memᴰ·head, List·Memᴰ·tail}
 use mathlib.Core.Option.{Option, none, some}
 use lib.ListN.{length, getD}
 use lib.Dec.{eqb}
-use borrow.Author.Tests.{eq-eqb, ne-eqb, eqb-true}
+use borrow.Author.Tests.{eq-eqb, eqb-true}
 use Rattle.permutation.specs.Table.{image, inverted}
 use Rattle.nominal.specs.Tree.{variable}
 use Rattle.nominal.specs.Solutions.{Every}
 use Rattle.nominal.proofs.Solutions.{every-at}
 use Rattle.sets.specs.Bits.{member}
 use Rattle.sets.proofs.Bits.{by-test, member-within}
-use Rattle.problem.specs.Problem.{Node, Fresh, Assumed, Problem}
+use Rattle.problem.specs.Problem.{Fresh, Assumed, Problem}
 use Rattle.problem.specs.Readable.{Readable}
 use Rattle.problem.specs.Held.{assumes}
 use Rattle.run.specs.Meaning.{tree}

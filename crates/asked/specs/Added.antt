@@ -6,7 +6,7 @@ use mathlib.Core.List.{List, [], _∷_}
 use lib.ListN.{length, getD, set}
 use lib.Dec.{eqb}
 use Rattle.sets.specs.Bits.{member, union, inserted}
-use Rattle.problem.specs.Problem.{Fresh, Problem}
+use Rattle.problem.specs.Problem.{Fresh}
 use Rattle.problem.specs.Readable.{Readable}
 use Rattle.problem.specs.Held.{problemOf}
 use Rattle.problem.specs.Look.{FreshnessStands}

@@ -1,8 +1,8 @@
 -- The laws of demands kept as sets: what a place of the tables says after one more mark, and that marking is raising one more demand.
-use Prim.Native.Nat.{ℕ, zero, suc, _+_, _*_, _^_, _≤_, _<_}
+use Prim.Native.Nat.{ℕ, suc, _+_, _*_, _^_, _≤_, _<_}
 use native.Mathlib.Omega.{arith}
 use native.Mathlib.Decide.{ℕ-discrete}
-use mathlib.Core.Path.{_≡_, refl, sym, _∙_, ap, ap₂}
+use mathlib.Core.Path.{_≡_, refl, sym, _∙_, ap}
 use mathlib.Core.Logic.{_≢_}
 use mathlib.Core.Bool.{Bool, true, false, _&&_, cond}
 use mathlib.Core.List.{List, [], _∷_, _++_, map, append-assoc, append-nil, List·Memᴰ, List·Memᴰ·head, List·Memᴰ·tail}
@@ -13,9 +13,8 @@ use lib.Dec.{eqb}
 use borrow.Author.Tests.{eq-eqb, ne-eqb}
 use Rattle.permutation.specs.Table.{Table, image, inverted, placeFrom, place}
 use Rattle.permutation.proofs.Table.{image-inverted-place}
-use Rattle.sets.specs.Bits.{member, inserted, removed, lowest, count, members}
+use Rattle.sets.specs.Bits.{member, inserted, removed, lowest, members}
 use Rattle.sets.proofs.Bits.{by-member, member-empty, member-inserted-same, member-inserted-other, members-empty, members-lowest, in-members-member, member-within}
-use Rattle.run.specs.Meaning.{Side}
 use Rattle.run.specs.Run.{Subject, of-variable, of-side, Demand, demands}
 use Rattle.demands.specs.Demands.{Sheet, sheet, marks, marked, markedAll, emptied, ofNode, ofVariable, first, Told, Tells, Raised, SideRaised, VariableRaised}
 

@@ -1,5 +1,5 @@
 -- `put_facts_of` meets its contract: the atoms that are left are written from the lowest up. The measure is how many are left.
-use Prim.Native.Nat.{ℕ, _^_, _+_, _<_}
+use Prim.Native.Nat.{ℕ, _^_, _<_}
 use native.Mathlib.Omega.{arith}
 use mathlib.Core.Path.{_≡_, sym, ap, _∙_}
 use mathlib.Core.List.{[], _∷_, _++_}

@@ -1,5 +1,5 @@
 -- `empty_rows` meets its contract: after i turns the first i sets are empty.
-use Prim.Native.Nat.{_<_, _-_, _≤_}
+use Prim.Native.Nat.{_-_, _≤_}
 use native.Mathlib.Omega.{arith}
 use mathlib.Core.Path.{ap, _∙_, _≡_}
 use lib.ListN.{length}

@@ -1,6 +1,5 @@
 -- `raise_variable` meets its contract: the set's atoms are marked in the variable's row.
 use Prim.Native.Nat.{_^_, _<_}
-use mathlib.Core.Path.{_≡_}
 use Rattle.demands.specs.Demands.{sheet}
 use Rattle.demands.proofs.Demands.{variable-raised}
 use borrow.Author.Needs.{needs}
