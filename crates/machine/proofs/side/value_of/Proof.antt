@@ -1,10 +1,8 @@
 -- `value_of` meets its contract: of a suspension the variable is looked up, and another form has no value.
-use native.Mathlib.Omega.{arith}
 use borrow.Author.Needs.{needs}
 use mathlib.Core.Path.{_≡_, refl}
-use mathlib.Core.Logic.{⊎-elim}
 use mathlib.Core.List.{[], _∷_}
-use types.Run.{OneOf}
+use types.Run.{OneOf, miss}
 use denote.Enum.Declared.{tagOf}
 use Rattle.problem.proofs.Form.{the-type}
 use Rattle.problem.specs.declared.Form.{Form}
@@ -19,10 +17,7 @@ other (Atom a) h bs = refl
 other (Abstraction a n) h bs = refl
 other (Pair l r) h bs = refl
 other (Application f n) h bs = refl
-other (Suspension x) h bs = absurd (none h)
-  where
-    none : OneOf (0 ∷ 1 ∷ 2 ∷ 3 ∷ 4 ∷ []) 5 → ⊥
-    none k = ⊎-elim (λ e. omega arith) (λ l. ⊎-elim (λ e. omega arith) (λ m. ⊎-elim (λ e. omega arith) (λ n. ⊎-elim (λ e. omega arith) (λ e. omega arith) n) m) l) k
+other (Suspension x) h bs = absurd (miss (0 ∷ 1 ∷ 2 ∷ 3 ∷ 4 ∷ []) 5 tt h)
 
 enum-known-form : tie.Need-enum-known-form
 enum-known-form c = search needs
