@@ -41,7 +41,7 @@ pub whole-is : (s : List ℕ) (A : ℕ) (P : Table) (n : ℕ) (own r : Permutati
 unfolding wholeOf
 whole-is s A P n own r π e f g = g ∙ rw (e, table-ofSwaps A π, f)
 
-length-whole : (s : List ℕ) (A : ℕ) (P : Table) (n : ℕ) → length (wholeOf s A P n) ≡ A
+pub length-whole : (s : List ℕ) (A : ℕ) (P : Table) (n : ℕ) → length (wholeOf s A P n) ≡ A
 unfolding wholeOf
 length-whole s A P n = length-after P (ofSwaps A (swapsOf (formNow s n))) ∙ length-ofSwaps A (swapsOf (formNow s n))
 

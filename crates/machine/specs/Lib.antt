@@ -1,2 +1,3 @@
 pub mod Side
 pub mod Rule
+pub mod Step
