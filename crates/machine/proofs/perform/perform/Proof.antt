@@ -1,137 +1,143 @@
+-- `perform` meets its contract: each act's function leaves what the definition's step adds.
+use Prim.Native.Nat.{_+_, _≤_, _<_}
+use native.Mathlib.Omega.{arith}
+use mathlib.Core.Path.{_≡_, refl}
+use mathlib.Core.List.{[]}
+use Rattle.bindings.proofs.Bindings.{keeps-few}
+use Rattle.machine.specs.declared.rule.Act.{Act}
+use Rattle.machine.specs.declared.rule.Act.the-variants.{Done, Clash, Inside, Protection}
+use Rattle.machine.specs.Step.{Takes}
+use Rattle.machine.proofs.Performing.{gone-pushed, gone-renamed, gone-same, gone-bound}
 use borrow.Author.Needs.{needs}
 use Rattle.machine.proofs.perform.perform.Statement.{statement}
 use Rattle.machine.proofs.perform.perform.Tie as tie
-use Rattle.machine.proofs.perform.perform.Reads as reads
-use Rattle.machine.proofs.perform.perform.Lts as lts
-use Rattle.machine.proofs.perform.bind.Reads as bind-reads
-use Rattle.machine.proofs.perform.one_part.Reads as one-part-reads
-use Rattle.machine.proofs.perform.renamed.Reads as renamed-reads
-use Rattle.machine.proofs.perform.same_variable.Reads as same-variable-reads
-use Rattle.machine.proofs.perform.two_parts.Reads as two-parts-reads
 
--- src/perform.rt:273:22
+few : (c : tie.Start) → c .args .atoms ≤ 32
+few c = rw (c .pre .readied .number) (c .pre .readied .readable .few-atoms)
+
+few-made : (c : tie.Start) → c .args .count ≤ 64
+few-made c = keeps-few _ _ _ (c .pre .keeps)
+
+-- What the act takes, once it is known which it is.
+takes : (c : tie.Start) (act : Act) → c .args .act ≡ act → Takes (c .args .s .now) (c .args .atoms) (c .args .n) (c .args .bound .0) (c .args .left) (c .args .right) act
+takes c act e = rw e at (c .pre .takes)
+
+
 enum-told : tie.Need-enum-told
 enum-told c = search needs
 
--- src/perform.rt:279:22
 enum-told-2 : tie.Need-enum-told-2
 enum-told-2 c = search needs
 
--- src/perform.rt:285:22
 enum-told-3 : tie.Need-enum-told-3
 enum-told-3 c = search needs
 
--- src/perform.rt:291:22
 enum-told-4 : tie.Need-enum-told-4
 enum-told-4 c = search needs
 
--- src/perform.rt:296:19
 enum-known-act : tie.Need-enum-known-act
 enum-known-act c = search needs
 
--- src/perform.rt:297:13
 one-part-requires : tie.Need-one-part-requires
-one-part-requires c κs = ?
+one-part-requires c κs =
+    (takes (c .before .before .before .before .before .before .before .before .before .before .before .before .before) _ (c .before .before .before .before .before .before .act .given .1), few (c .before .before .before .before .before .before .before .before .before .before .before .before .before))
 
--- src/perform.rt:313:26
 add-t55 : tie.Need-add-t55
-add-t55 c = ?
+add-t55 c =
+    let h : c .before .before .before .before .before .before .before .before .before .before .before .before .before .before .args .n < 576 = takes (c .before .before .before .before .before .before .before .before .before .before .before .before .before .before) _ (c .before .before .before .before .before .before .before .act .given .1) in omega (arith, h)
 
--- src/perform.rt:318:20
 enum-known-act-2 : tie.Need-enum-known-act-2
 enum-known-act-2 c = search needs
 
--- src/perform.rt:319:13
 two-parts-requires : tie.Need-two-parts-requires
-two-parts-requires c κs = ?
+two-parts-requires c κs =
+    (takes (c .before .before .before .before .before .before .before .before .before .before .before .before .before) _ (c .before .before .before .before .before .before .act2 .given .1), few (c .before .before .before .before .before .before .before .before .before .before .before .before .before))
 
--- src/perform.rt:337:26
 add-t63 : tie.Need-add-t63
-add-t63 c = ?
+add-t63 c =
+    let h : c .before .before .before .before .before .before .before .before .before .before .before .before .before .before .args .n + 1 < 576 = takes (c .before .before .before .before .before .before .before .before .before .before .before .before .before .before) _ (c .before .before .before .before .before .before .before .act2 .given .1) in omega (arith, h)
 
--- src/perform.rt:342:22
 enum-known-act-3 : tie.Need-enum-known-act-3
 enum-known-act-3 c = search needs
 
--- src/perform.rt:343:13
 renamed-requires : tie.Need-renamed-requires
-renamed-requires c κs = ?
+renamed-requires c κs =
+    let h = takes (c .before .before .before .before .before .before .before .before .before .before .before .before .before .before .before) _ (c .before .before .before .before .before .before .before .before .act3 .given .1) in (h .0, few (c .before .before .before .before .before .before .before .before .before .before .before .before .before .before .before), h .1, omega (arith, h .2, c .before .before .before .before .before .before .before .before .before .before .before .before .before .before .before .pre .readied .readable .few-nodes))
 
--- src/perform.rt:363:26
 add-t73 : tie.Need-add-t73
-add-t73 c = ?
+add-t73 c =
+    let h : c .before .before .before .before .before .before .before .before .before .before .before .before .before .before .before .before .args .n < 576 = takes (c .before .before .before .before .before .before .before .before .before .before .before .before .before .before .before .before) _ (c .before .before .before .before .before .before .before .before .before .act3 .given .1) .0 in omega (arith, h)
 
--- src/perform.rt:368:19
 enum-known-act-4 : tie.Need-enum-known-act-4
 enum-known-act-4 c = search needs
 
--- src/perform.rt:369:13
 same-variable-requires : tie.Need-same-variable-requires
-same-variable-requires c κs = ?
+same-variable-requires c κs =
+    let h = takes (c .before .before .before .before .before .before .before .before .before .before) _ (c .before .before .before .act4 .given .1) in (c .before .before .before .before .before .before .before .before .before .before .pre .readied, h .1, h .2, omega (arith, h .0, c .before .before .before .before .before .before .before .before .before .before .pre .readied .readable .few-variables))
 
--- src/perform.rt:389:23
 enum-known-act-5 : tie.Need-enum-known-act-5
 enum-known-act-5 c = search needs
 
--- src/perform.rt:390:17
 bind-requires : tie.Need-bind-requires
-bind-requires c κs = ?
+bind-requires c κs =
+    let h = takes (c .before .before .before .before .before .before .before .before .before .before .before .before) _ (c .before .before .before .before .before .act5 .given .1) in (c .before .before .before .before .before .before .before .before .before .before .before .before .pre .readied, h .1, (c .before .before .before .before .before .before .before .before .before .before .before .before .pre .keeps, h .2, omega (arith, h .0, c .before .before .before .before .before .before .before .before .before .before .before .before .pre .readied .readable .few-variables)))
 
--- src/perform.rt:411:24
 add-t83 : tie.Need-add-t83
-add-t83 c = ?
+add-t83 c =
+    omega (arith, few-made (c .before .before .before .before .before .before .before .before .before .before .before .before .before))
 
--- src/perform.rt:414:24
 enum-known-act-6 : tie.Need-enum-known-act-6
 enum-known-act-6 c = search needs
 
--- src/perform.rt:415:17
 bind-requires-2 : tie.Need-bind-requires-2
-bind-requires-2 c κs = ?
+bind-requires-2 c κs =
+    let h = takes (c .before .before .before .before .before .before .before .before .before .before .before .before) _ (c .before .before .before .before .before .act6 .given .1) in (c .before .before .before .before .before .before .before .before .before .before .before .before .pre .readied, h .1, (c .before .before .before .before .before .before .before .before .before .before .before .before .pre .keeps, h .2, omega (arith, h .0, c .before .before .before .before .before .before .before .before .before .before .before .before .pre .readied .readable .few-variables)))
 
--- src/perform.rt:436:24
 add-t89 : tie.Need-add-t89
-add-t89 c = ?
+add-t89 c =
+    omega (arith, few-made (c .before .before .before .before .before .before .before .before .before .before .before .before .before))
 
--- src/perform.rt:239:1
 returns : tie.Need-returns
-returns c = ?
+returns c =
+    let e : c .before .before .before .before .before .before .before .args .act ≡ Done = search needs in rw e (gone-pushed _ _ _ _ _ _ _ (c .before .before .before .before .before .before .before .pre .keeps) [] _ _ _ _ _ refl)
 
--- src/perform.rt:239:1
 returns-2 : tie.Need-returns-2
-returns-2 c = ?
+returns-2 c =
+    let e : c .before .before .before .before .before .before .before .args .act ≡ Clash = search needs in rw e
 
--- src/perform.rt:239:1
 returns-3 : tie.Need-returns-3
-returns-3 c = ?
+returns-3 c =
+    let e : c .before .before .before .before .before .before .before .args .act ≡ Inside = search needs in rw e
 
--- src/perform.rt:239:1
 returns-4 : tie.Need-returns-4
-returns-4 c = ?
+returns-4 c =
+    let e : c .before .before .before .before .before .before .before .args .act ≡ Protection = search needs in rw e
 
--- src/perform.rt:239:1
 returns-5 : tie.Need-returns-5
-returns-5 c = ?
+returns-5 c =
+    rw (c .before .before .before .before .before .before .before .act .given .1) (gone-pushed _ _ _ _ _ _ _ (c .before .before .before .before .before .before .before .before .before .before .before .before .before .before .pre .keeps) _ _ _ _ _ _ (c .one-part .ensures))
 
--- src/perform.rt:239:1
 returns-6 : tie.Need-returns-6
-returns-6 c = ?
+returns-6 c =
+    rw (c .before .before .before .before .before .before .before .act2 .given .1) (gone-pushed _ _ _ _ _ _ _ (c .before .before .before .before .before .before .before .before .before .before .before .before .before .before .pre .keeps) _ _ _ _ _ _ (c .two-parts .ensures))
 
--- src/perform.rt:239:1
 returns-7 : tie.Need-returns-7
-returns-7 c = ?
+returns-7 c =
+    let h = takes (c .before .before .before .before .before .before .before .before .before .before .before .before .before .before .before .before) _ (c .before .before .before .before .before .before .before .before .before .act3 .given .1) in
+    rw (c .before .before .before .before .before .before .before .before .before .act3 .given .1) (gone-renamed _ _ _ _ _ _ _ (c .before .before .before .before .before .before .before .before .before .before .before .before .before .before .before .before .pre .keeps) _ _ _ _ _ _ _ _ _ (c .renamed .ensures) (h .2) (c .before .before .before .before .before .before .before .before .before .before .before .before .before .before .before .before .pre .readied .readable .few-nodes))
 
--- src/perform.rt:239:1
 returns-8 : tie.Need-returns-8
-returns-8 c = ?
+returns-8 c =
+    let h = takes (c .before .before .before .before .before .before .before .before .before .before .before) _ (c .before .before .before .before .act4 .given .1) in
+    rw (c .before .before .before .before .act4 .given .1) (gone-same _ _ _ _ _ _ _ (c .before .before .before .before .before .before .before .before .before .before .before .pre .keeps) _ _ _ _ _ _ _ (c .same-variable .ensures) (h .0) (c .before .before .before .before .before .before .before .before .before .before .before .pre .readied .readable .few-variables))
 
--- src/perform.rt:239:1
 returns-9 : tie.Need-returns-9
-returns-9 c = ?
+returns-9 c =
+    rw (c .before .before .before .before .before .before .act5 .given .1) (gone-bound _ _ _ _ _ _ _ (c .before .before .before .before .before .before .before .before .before .before .before .before .before .pre .keeps) _ _ _ _ _ _ _ (c .bind .ensures))
 
--- src/perform.rt:239:1
 returns-10 : tie.Need-returns-10
-returns-10 c = ?
+returns-10 c =
+    rw (c .before .before .before .before .before .before .act6 .given .1) (gone-bound _ _ _ _ _ _ _ (c .before .before .before .before .before .before .before .before .before .before .before .before .before .pre .keeps) _ _ _ _ _ _ _ (c .bind2 .ensures))
 
 pub perform-spec : {M : Type 1} → statement M
 perform-spec =
