@@ -1,7 +1,9 @@
 -- What a step is to do with two resolved sides, as the code tells it, and what that is as the definition's step (run, specs/Run.antt). Definitions alone;
 -- that the two agree is shown in proofs/.
 use Prim.Native.Nat.{ℕ}
-use mathlib.Core.Bool.{Bool, true, false, cond}
+use mathlib.Core.Path.{_≡_}
+use mathlib.Core.Logic.{_⊎_}
+use mathlib.Core.Bool.{Bool, false, cond}
 use mathlib.Core.List.{List, [], _∷_, map}
 use lib.Dec.{eqb}
 use Rattle.names.specs.declared.Atom.{Atom as AtomName}
@@ -10,8 +12,13 @@ use Rattle.names.specs.declared.NodeId.{NodeId}
 use Rattle.permutation.specs.Table.{Table, image, inverted, swappedAfter, disagreement}
 use Rattle.problem.specs.declared.Form.{Form}
 use Rattle.problem.specs.declared.Form.the-variants.{Unit, Atom, Abstraction, Pair, Application, Suspension}
+use Rattle.permutation.specs.declared.Permutation.{Permutation}
+use Rattle.sets.specs.Bits.{member}
 use Rattle.run.specs.Meaning.{Side}
 use Rattle.run.specs.Run.{of-variable, of-side, under, clash, inside, protection, Step, refuses, goes-on, done}
+use Rattle.occurs.specs.Reached.{Answered}
+use Rattle.machine.specs.Side.{sideAt}
+use Rattle.machine.specs.declared.side.Side.{Side as HeldSide}
 use Rattle.machine.specs.declared.rule.Act.{Act}
 use Rattle.machine.specs.declared.rule.Act.the-variants.{Done, Clash, Inside, Protection, Part, Parts, Renamed, Same, BindLeft, BindRight}
 
@@ -98,6 +105,12 @@ unlessInside i act = cond i Inside act
 abbrev pub unlessProtected : Bool → Bool → Act → Act
 unlessProtected p i act = cond p Protection (unlessInside i act)
 
+-- "Suspensions of one variable X" come first. Of two variables the left one is bound if it is not protected, else the right one. i says whether Y occurs
+-- in the left side, j whether X occurs in the right one.
+abbrev pub eitherAct : (ℕ → Bool) → Variable → Variable → Bool → Bool → Act
+eitherAct protected x y i j =
+    cond (eqb (x .0) (y .0)) (Same x) (cond (protected (x .0)) (unlessProtected (protected (y .0)) i (BindRight y)) (unlessInside j (BindLeft x)))
+
 -- Given which variables are protected and which occur in a side.
 module _ (protected : ℕ → Bool) (occurring : ℕ → Side → Bool) (s t : Side) where
   abbrev pub leftAct : Variable → Form → Act
@@ -106,9 +119,7 @@ module _ (protected : ℕ → Bool) (occurring : ℕ → Side → Bool) (s t : S
   leftAct x (Abstraction b n) = unlessProtected (protected (x .0)) (occurring (x .0) t) (BindLeft x)
   leftAct x (Pair k n) = unlessProtected (protected (x .0)) (occurring (x .0) t) (BindLeft x)
   leftAct x (Application h n) = unlessProtected (protected (x .0)) (occurring (x .0) t) (BindLeft x)
-  leftAct x (Suspension y) =
-      cond (eqb (x .0) (y .0)) (Same x)
-      (cond (protected (x .0)) (unlessProtected (protected (y .0)) (occurring (y .0) s) (BindRight y)) (unlessInside (occurring (x .0) t) (BindLeft x)))
+  leftAct x (Suspension y) = eitherAct protected x y (occurring (y .0) s) (occurring (x .0) t)
 
   -- The left side is no suspension.
   abbrev pub rightAct : Form → Form → Act
@@ -126,3 +137,24 @@ module _ (protected : ℕ → Bool) (occurring : ℕ → Side → Bool) (s t : S
   ruleAct (Pair l m) w = rightAct (Pair l m) w
   ruleAct (Application f m) w = rightAct (Application f m) w
   ruleAct (Suspension x) w = leftAct x w
+
+-- ---- what is told
+
+-- o is what the occurs check says of the variable X and the node n.
+abbrev pub Told : ℕ → List ℕ → List ℕ → ℕ → ℕ → Bool → Type 0
+Told bound roots table n X o = (b : Bool) → Answered bound roots table n X b → b ≡ o
+
+-- The variable that the form suspends, if it is a suspension, is not bound.
+abbrev pub Free : ℕ → Form → Type 0
+Free bound Unit = Prim.Unit {0}
+Free bound (Atom a) = Prim.Unit {0}
+Free bound (Abstraction a n) = Prim.Unit {0}
+Free bound (Pair l r) = Prim.Unit {0}
+Free bound (Application f n) = Prim.Unit {0}
+Free bound (Suspension x) = member bound (x .0) ≡ false
+
+-- With whatever agrees with the occurs check on variables that are not bound, the rule is told.
+abbrev pub Decided : ℕ → (ℕ → Bool) → ℕ → List ℕ → List ℕ → HeldSide → HeldSide → Act → Type 0
+Decided A protected bound roots table l r act =
+    (occurring : ℕ → Side → Bool) → ((X : ℕ) (n : NodeId) (p : Permutation) → member bound X ≡ false → (n ≡ l .node) ⊎ (n ≡ r .node) → Told bound roots table (n .0) X (occurring X (sideAt A p n)))
+    → Free bound (l .form) → Free bound (r .form) → act ≡ ruleAct protected occurring (sideAt A (l .images) (l .node)) (sideAt A (r .images) (r .node)) (l .form) (r .form)

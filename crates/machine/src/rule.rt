@@ -3,7 +3,10 @@
 ghost use mathlib.Core.Path.{_≡_};
 ghost use Prim.Native.Nat.{_≤_, _<_};
 ghost use Rattle.permutation.specs.Store.{table};
-ghost use Rattle.machine.specs.Rule.{atomAct, abstractionAct, applicationAct, compoundAct};
+ghost use mathlib.Core.Bool.{Bool};
+ghost use Rattle.sets.specs.Bits.{member};
+ghost use Rattle.machine.specs.Side.{RootsThere};
+ghost use Rattle.machine.specs.Rule.{atomAct, abstractionAct, applicationAct, compoundAct, unlessInside, unlessProtected, eitherAct, Told, Decided};
 ghost use Rattle.problem.specs.declared.Form.the-variants as form;
 use crate::side::Side;
 use names::Atom;
@@ -11,6 +14,7 @@ use names::NodeId;
 use names::Variable;
 use permutation::Permutation;
 use problem::Form;
+use sets::VariableSet;
 
 // What a step does: it is done, it refuses, it goes on with parts of both sides, it demands, or it binds.
 pub enum Act {
@@ -112,4 +116,93 @@ fn compounds(left: Side, right: Side, atoms: usize) -> Act
         }
         Form::Suspension(_) => Act::Clash,
     }
+}
+
+// "if X occurs in the right side, looked at through all bindings, 10".
+fn unless_inside(
+    x: Variable,
+    bound: VariableSet,
+    roots: &[u16; 64],
+    node_variables: &[u64; 512],
+    other: NodeId,
+    act: Act,
+) -> Act
+    requires { ⌜ (other .0 < 512) × RootsThere 512 (now roots) (bound .0) ⌝ }
+    ensures { λ r. ⌜ ((o : Bool) → Told (bound .0) (now (roots .entry)) (now («node_variables» .entry)) (other .0) (x .0) o → r ≡ unlessInside o act) ⌝ }
+{
+    if occurs::occurs(x, bound, roots, node_variables, other) {
+        return Act::Inside;
+    }
+    act
+}
+
+// "an unprotected X under P", and "Any other suspension: 11".
+fn one_variable(
+    protected: VariableSet,
+    x: Variable,
+    bound: VariableSet,
+    roots: &[u16; 64],
+    node_variables: &[u64; 512],
+    other: NodeId,
+    act: Act,
+) -> Act
+    requires { ⌜ (other .0 < 512) × RootsThere 512 (now roots) (bound .0) ⌝ }
+    ensures { λ r. ⌜ ((o : Bool) → Told (bound .0) (now (roots .entry)) (now («node_variables» .entry)) (other .0) (x .0) o → r ≡ unlessProtected (member (protected .0) (x .0)) o act) ⌝ }
+{
+    if protected.has(x) {
+        return Act::Protection;
+    }
+    unless_inside(x, bound, roots, node_variables, other, act)
+}
+
+// Two suspensions: "of one variable X", or the left variable is bound if it is not protected, else the right one.
+fn two_variables(
+    protected: VariableSet,
+    x: Variable,
+    y: Variable,
+    bound: VariableSet,
+    roots: &[u16; 64],
+    node_variables: &[u64; 512],
+    left: NodeId,
+    right: NodeId,
+) -> Act
+    requires { ⌜ (left .0 < 512) × (right .0 < 512) × RootsThere 512 (now roots) (bound .0) ⌝ }
+    ensures { λ r. ⌜ ((i j : Bool) → Told (bound .0) (now (roots .entry)) (now («node_variables» .entry)) (left .0) (y .0) i → Told (bound .0) (now (roots .entry)) (now («node_variables» .entry)) (right .0) (x .0) j → r ≡ eitherAct (member (protected .0)) x y i j) ⌝ }
+{
+    if x.0 == y.0 {
+        return Act::Same(x);
+    }
+    if protected.has(x) {
+        return one_variable(protected, y, bound, roots, node_variables, left, Act::BindRight(y));
+    }
+    unless_inside(x, bound, roots, node_variables, right, Act::BindLeft(x))
+}
+
+// "Then one step, the first that fits".
+pub fn decide(
+    protected: VariableSet,
+    bound: VariableSet,
+    roots: &[u16; 64],
+    node_variables: &[u64; 512],
+    atoms: usize,
+    left: Side,
+    right: Side,
+) -> Act
+    requires { ⌜ (atoms ≤ 32) × (left .node .0 < 512) × (right .node .0 < 512) × RootsThere 512 (now roots) (bound .0) ⌝ }
+    ensures { λ r. ⌜ Decided atoms (member (protected .0)) (bound .0) (now (roots .entry)) (now («node_variables» .entry)) left right r ⌝ }
+{
+    let v = left.form;
+    let w = right.form;
+    let l = left.node;
+    let r = right.node;
+    if let Form::Suspension(x) = v {
+        if let Form::Suspension(y) = w {
+            return two_variables(protected, x, y, bound, roots, node_variables, l, r);
+        }
+        return one_variable(protected, x, bound, roots, node_variables, r, Act::BindLeft(x));
+    }
+    if let Form::Suspension(y) = w {
+        return one_variable(protected, y, bound, roots, node_variables, l, Act::BindRight(y));
+    }
+    compounds(left, right, atoms)
 }
