@@ -1,3 +1,5 @@
 pub mod Resolving
 pub mod Ruling
 pub mod Performing
+pub mod Stepping
+pub mod Running

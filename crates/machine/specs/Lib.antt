@@ -1,3 +1,4 @@
 pub mod Side
 pub mod Rule
 pub mod Step
+pub mod Run

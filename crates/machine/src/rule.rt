@@ -173,7 +173,15 @@ fn two_variables(
         return Act::Same(x);
     }
     if protected.has(x) {
-        return one_variable(protected, y, bound, roots, node_variables, left, Act::BindRight(y));
+        return one_variable(
+            protected,
+            y,
+            bound,
+            roots,
+            node_variables,
+            left,
+            Act::BindRight(y),
+        );
     }
     unless_inside(x, bound, roots, node_variables, right, Act::BindLeft(x))
 }
@@ -199,10 +207,26 @@ pub fn decide(
         if let Form::Suspension(y) = w {
             return two_variables(protected, x, y, bound, roots, node_variables, l, r);
         }
-        return one_variable(protected, x, bound, roots, node_variables, r, Act::BindLeft(x));
+        return one_variable(
+            protected,
+            x,
+            bound,
+            roots,
+            node_variables,
+            r,
+            Act::BindLeft(x),
+        );
     }
     if let Form::Suspension(y) = w {
-        return one_variable(protected, y, bound, roots, node_variables, l, Act::BindRight(y));
+        return one_variable(
+            protected,
+            y,
+            bound,
+            roots,
+            node_variables,
+            l,
+            Act::BindRight(y),
+        );
     }
     compounds(left, right, atoms)
 }

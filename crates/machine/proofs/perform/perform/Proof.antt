@@ -22,7 +22,6 @@ few-made c = keeps-few _ _ _ (c .pre .keeps)
 takes : (c : tie.Start) (act : Act) → c .args .act ≡ act → Takes (c .args .s .now) (c .args .atoms) (c .args .n) (c .args .bound .0) (c .args .left) (c .args .right) act
 takes c act e = rw e at (c .pre .takes)
 
-
 enum-told : tie.Need-enum-told
 enum-told c = search needs
 
