@@ -3,4 +3,3 @@ pub mod Ruling
 pub mod Performing
 pub mod Stepping
 pub mod Running
-pub mod Protection
