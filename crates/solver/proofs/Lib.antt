@@ -6,3 +6,4 @@ pub mod Concluding
 pub mod Resolving
 pub mod Covering
 pub mod Deciding
+pub mod Beginning

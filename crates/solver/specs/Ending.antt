@@ -9,9 +9,9 @@ use lib.ListN.{length, getD}
 use Rattle.sets.specs.Bits.{member}
 use Rattle.problem.specs.Problem.{Problem}
 use Rattle.problem.specs.Readable.{Readable}
-use Rattle.problem.specs.Held.{assumes, problemOf}
+use Rattle.problem.specs.Held.{assumes, Held, problemOf}
 use Rattle.problem.specs.Look.{NodeStands, FreshnessStands}
-use Rattle.problem.specs.Told.{countsOf}
+use Rattle.problem.specs.Told.{countsOf, allIn}
 use Rattle.problem.specs.declared.Counts.{Counts}
 use Rattle.run.specs.Meaning.{Binding, meaning, Fact}
 use Rattle.run.specs.Run.{Demand, finished, equationsFrom}
@@ -92,3 +92,9 @@ abbrev pub Judges : Problem → List ℕ → List ℕ → ℕ → List ℕ → L
 Judges p roots images bound askedNodes askedVariables r =
     (order : List ℕ) (count steps : ℕ) (e : Ended p order roots images count bound askedNodes askedVariables steps)
     → judgementOf r ≡ run.judgementOf p (finished (e .left) (bindingsIn e) (e .demands))
+
+-- The problem was read, and nothing was done with it yet.
+pub record Begun (s places equationPlaces freshPlaces assumed : List ℕ) (c : Counts) : Type 0 where
+  pub readable : Readable (problemOf s)
+  pub counts : c ≡ countsOf (problemOf s)
+  pub held : Held s places equationPlaces freshPlaces assumed (allIn 0 (problemOf s .protected)) (problemOf s)
