@@ -9,10 +9,10 @@ use Rattle.sets.specs.Bits.{member, allBelow, among}
 use Rattle.problem.specs.Problem.{Problem}
 use Rattle.problem.specs.Reader.{reading, read, baseTags}
 use Rattle.problem.specs.Held.{problemOf}
-use Rattle.problem.specs.Told.{told}
-use Rattle.problem.specs.Tables.{tables}
+use Rattle.problem.specs.Tables as reader
 use Rattle.problem.specs.Opening.{ReadAs}
 use Rattle.problem.specs.declared.Counts.{Counts}
+use Rattle.problem.specs.declared.Reading as answer
 use Rattle.problem.specs.declared.Reading.the-variants.{Read}
 use Rattle.problem.proofs.Looking.{node-stands, equation-stands, freshness-stands}
 use Rattle.run.specs.Meaning.{Binding}
@@ -36,15 +36,14 @@ use Rattle.solver.proofs.Running.{solver-run, judge-run, all-protected}
 
 -- ---- the reader's answer is a problem
 
-module _ (s places equationPlaces freshPlaces assumed places′ equationPlaces′ freshPlaces′ assumed′ : List ℕ) (c : Counts)
-    (h : ReadAs s (tables places equationPlaces freshPlaces assumed) (Read c) (tables places′ equationPlaces′ freshPlaces′ assumed′)) where
-  pub begun : Begun s places′ equationPlaces′ freshPlaces′ assumed′ c
+module _ {s : List ℕ} {t u : reader.Tables} {r : answer.Reading} {c : Counts} (h : ReadAs s t r u) (e : r ≡ Read c) where
+  pub begun : Begun s (u .places) (u .equationPlaces) (u .freshPlaces) (u .assumed) c
   begun =
-      let k = told-read s c (h .the-answer) in
+      let k = told-read s c (sym e ∙ h .the-answer) in
       record { readable = h .is-readable (problemOf s) (k .0); counts = k .1; held = h .is-held (problemOf s) (k .0) }
 
   pub is-read : reading baseTags s ≡ read (problemOf s)
-  is-read = told-read s c (h .the-answer) .0
+  is-read = told-read s c (sym e ∙ h .the-answer) .0
 
 module _ (s places equationPlaces freshPlaces assumed : List ℕ) (c : Counts) (b : Begun s places equationPlaces freshPlaces assumed c) where
   -- ---- what the run and those after it ask

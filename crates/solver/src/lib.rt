@@ -4,6 +4,7 @@
 pub mod assumed; // assumed.rt: what the judge asks in the end
 pub mod words; // words.rt: that rows are words
 pub mod ending; // ending.rt: resolving all demands, and what is given back then
+pub mod entries; // entries.rt: the inner entry of the solver
 
 // What the solver gives back: document 01's numbers 0 to 13, each with its place where it has one.
 pub enum Verdict {
