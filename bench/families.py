@@ -1,0 +1,170 @@
+#!/usr/bin/env python3
+"""Writes the problems that are timed: families.py FOLDER makes a stream (each problem after its length in four bytes, high byte first) for each
+family, FOLDER/NAME.stream, and for growth FOLDER/grow-NAME-NODES.stream with the nodes doubling from 32 to 512."""
+import os
+import random
+import struct
+import sys
+
+
+class Problem:
+    """A problem's bytes, field by field; nodes are numbered as they are made."""
+
+    def __init__(self, atoms, variables, limit=0xFFFFFFFF):
+        self.bytes = self.field(0x01, bytes([atoms, variables]) + struct.pack(">I", limit))
+        self.nodes = 0
+
+    @staticmethod
+    def field(tag, body):
+        return bytes([tag]) + struct.pack(">H", len(body)) + body
+
+    def node(self, tag, body):
+        self.bytes += self.field(tag, body)
+        self.nodes += 1
+        return self.nodes - 1
+
+    def unit(self):
+        return self.node(0x10, b"")
+
+    def atom(self, a):
+        return self.node(0x11, bytes([a]))
+
+    def abstraction(self, a, n):
+        return self.node(0x12, bytes([a]) + struct.pack(">H", n))
+
+    def pair(self, left, right):
+        return self.node(0x13, struct.pack(">HH", left, right))
+
+    def application(self, symbol, n):
+        return self.node(0x14, struct.pack(">HH", symbol, n))
+
+    def suspension(self, variable, swaps=()):
+        return self.node(0x15, bytes([variable]) + bytes(a for swap in swaps for a in swap))
+
+    def equation(self, left, right):
+        self.bytes += self.field(0x20, struct.pack(">HH", left, right))
+
+    def freshness(self, a, n):
+        self.bytes += self.field(0x21, bytes([a]) + struct.pack(">H", n))
+
+    def protect(self, variable):
+        self.bytes += self.field(0x30, bytes([variable]))
+
+
+def whole_example():
+    p = Problem(2, 1, 100)
+    left = p.abstraction(0, p.suspension(0))
+    p.equation(left, p.abstraction(1, p.atom(1)))
+    return p
+
+
+def rule_match(seed):
+    """A rule's left side with variables against a query: lets over applications and pairs, other binder names on the query's side."""
+    random_ = random.Random(seed)
+    p = Problem(8, 6)
+    depth = random_.randint(2, 4)
+
+    def rule(level):
+        if level == 0:
+            return p.pair(p.suspension(3), p.application(9, p.suspension(4)))
+        return p.application(1, p.pair(p.suspension(level % 3), p.abstraction(level, rule(level - 1))))
+
+    def expression():
+        return p.application(random_.randint(2, 5), p.pair(p.atom(7), p.unit()))
+
+    def query(level):
+        if level == 0:
+            return p.pair(expression(), p.application(9, p.suspension(5)))
+        return p.application(1, p.pair(seen[level % 3], p.abstraction((level + 3) % 7, query(level - 1))))
+
+    left = rule(depth)
+    seen = [expression() for _ in range(3)]
+    p.protect(5)
+    p.equation(left, query(depth))
+    p.freshness(1, left)
+    return p
+
+
+def chain(nodes):
+    """Two chains of applications, one node after another."""
+    p = Problem(2, 1)
+    left, right = p.atom(0), p.suspension(0)
+    while p.nodes + 2 <= nodes:
+        left, right = p.application(3, left), p.application(3, right)
+    p.equation(left, right)
+    return p
+
+
+def shared_pairs(nodes):
+    """Pairs of one node with itself, under freshness of every atom."""
+    p = Problem(32, 1)
+    n = p.suspension(0)
+    while p.nodes < nodes:
+        n = p.pair(n, n)
+    for a in range(32):
+        p.freshness(a, n)
+    return p
+
+
+def bound_chain(variables):
+    """X0 against f(X1, X1), X1 against f(X2, X2), ..: each variable bound to a node with the next."""
+    p = Problem(2, variables)
+    names = [p.suspension(i) for i in range(variables)]
+    for i in range(variables - 1):
+        p.equation(names[i], p.application(5, p.pair(names[i + 1], names[i + 1])))
+    p.freshness(0, names[0])
+    return p
+
+
+def many_swaps(count):
+    """Suspensions under 32 swaps of 32 atoms against each other."""
+    random_ = random.Random(7)
+    p = Problem(32, count)
+    for i in range(count):
+        swaps = [(random_.randrange(32), random_.randrange(32)) for _ in range(32)]
+        others = [(random_.randrange(32), random_.randrange(32)) for _ in range(32)]
+        p.equation(p.suspension(i, swaps), p.suspension(i, others))
+    return p
+
+
+def late_clash(nodes):
+    """A limit of 4,294,967,295 and a clash at the end."""
+    p = Problem(2, 0)
+    left, right = p.atom(0), p.atom(1)
+    while p.nodes + 2 <= nodes:
+        left, right = p.application(3, left), p.application(3, right)
+    p.equation(left, right)
+    return p
+
+
+FAMILIES = {
+    "tiny": [whole_example()],
+    "match": [rule_match(seed) for seed in range(64)],
+    "chain-512": [chain(512)],
+    "shared-500": [shared_pairs(500)],
+    "bound-64": [bound_chain(64)],
+    "swaps-32": [many_swaps(32)],
+    "clash-4-billion": [late_clash(512)],
+}
+GROWTH = {"chain": chain, "shared": shared_pairs, "clash": late_clash}
+
+
+def write(folder, name, problems):
+    with open(os.path.join(folder, name + ".stream"), "wb") as out:
+        for p in problems:
+            out.write(struct.pack(">I", len(p.bytes)) + p.bytes)
+
+
+def main(folder):
+    os.makedirs(folder, exist_ok=True)
+    for name, problems in FAMILIES.items():
+        write(folder, name, problems)
+    for name, make in GROWTH.items():
+        for nodes in (32, 64, 128, 256, 512):
+            write(folder, "grow-%s-%d" % (name, nodes), [make(nodes)])
+
+
+if __name__ == "__main__":
+    if len(sys.argv) != 2:
+        raise SystemExit(__doc__)
+    main(sys.argv[1])
