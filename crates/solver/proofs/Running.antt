@@ -50,6 +50,7 @@ module _ (p : Problem) (n : ℕ) (output : List ℕ) where
   unfolding verdictOf given
   solved-protection e = rw e
 
+module _ (p : Problem) (n : ℕ) where
   pub judged-limit : judgedRun p ≡ limit n → (8, n) ≡ judgementOf p (judgedRun p)
   unfolding judgementOf
   judged-limit e = rw e

@@ -4,7 +4,9 @@
 pub mod assumed; // assumed.rt: what the judge asks in the end
 pub mod words; // words.rt: that rows are words
 pub mod ending; // ending.rt: resolving all demands, and what is given back then
-pub mod entries; // entries.rt: the inner entry of the solver
+pub mod solving; // solving.rt: the solver after its reader
+pub mod judging; // judging.rt: the judge after its reader
+pub mod entries; // entries.rt: the entries of both
 
 // What the solver gives back: document 01's numbers 0 to 13, each with its place where it has one.
 pub enum Verdict {

@@ -7,8 +7,8 @@ use Rattle.run.specs.Answer.{verdictOf, given}
 use Rattle.solver.proofs.Resolving.{all-nodes}
 use Rattle.solver.proofs.Running.{solved-limit, solved-clash, solved-inside, solved-protection}
 use Rattle.solver.proofs.Beginning.{ready, run-ready, solver-end, end-by, ended, ended-run}
-use Rattle.solver.proofs.entries.solve_read.Statement.{statement}
-use Rattle.solver.proofs.entries.solve_read.Tie as tie
+use Rattle.solver.proofs.solving.solve_read.Statement.{statement}
+use Rattle.solver.proofs.solving.solve_read.Tie as tie
 
 cast-nodes : tie.Need-cast-nodes
 cast-nodes c = search needs
