@@ -75,8 +75,8 @@ static inline uint32_t cheesetrestle_number(uint64_t given) { return (uint32_t)(
 static inline uint32_t cheesetrestle_place(uint64_t given) { return (uint32_t)given; }
 
 /* The solver. With 0 the output starts with the answer and its other bytes are
- * as they were; with any other number all of it is as it was. Uses about 75 KB of
- * stack, cleared at each call: who solves often lends tables instead. */
+ * as they were; with any other number all of it is as it was. Its tables, 70,720
+ * bytes, are on the stack and cleared at each call: who solves often lends them. */
 uint64_t cheesetrestle_solve(const uint8_t *input, size_t input_length, uint8_t *output, size_t output_length);
 
 /* The judge: whether the problem's equations and freshness fields follow from
