@@ -73,13 +73,13 @@ answer-lines steps bs fs h k =
     ∙ ap (λ (l : List ℕ). acceptedLine steps ++ l) (binding-lines bs (factBytes fs) k ∙ ap (λ (l : List ℕ). bindLines bs ++ l) (fact-lines fs)))
 
 -- What the solver gives back for a verdict is printed as the verdict's lines: an acceptance whose answer fits the lent output, and every refusal.
-pub Printable : Verdict → List ℕ → Type 0
+abbrev pub Printable : Verdict → List ℕ → Type 0
 Printable (accepted steps bs fs) output = (steps < 4294967296) × SmallBindings bs × (length (answerBytes steps bs fs) ≤ length output)
 Printable (refusal number place) output = number ≢ 0
 
 pub printed : (v : Verdict) (output : List ℕ) → Printable v output
     → solverLines (given v output .number) (given v output .place) (given v output .output) ≡ verdictLines v
-unfolding given written solverLines verdictLines Printable
+unfolding given written solverLines verdictLines
 printed (accepted steps bs fs) output h =
     rw (le-leb (length (answerBytes steps bs fs)) (length output) (h .2), take-at (answerBytes steps bs fs) (drop (length (answerBytes steps bs fs)) output) (length (answerBytes steps bs fs)) refl)
     (answer-lines steps bs fs (h .0) (h .1))
