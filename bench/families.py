@@ -137,6 +137,26 @@ def late_clash(nodes):
     return p
 
 
+def nested_pairs():
+    """200 nested pairs of one node with itself under one freshness field: 1,419 bytes, and 2^200 leaves to one who walks the tree."""
+    p = Problem(1, 1)
+    n = p.suspension(0)
+    for _ in range(200):
+        n = p.pair(n, n)
+    p.freshness(0, n)
+    return p
+
+
+class Published:
+    """A case of known answer, by its name in tests/vectors/base.tsv."""
+
+    def __init__(self, name):
+        vectors = os.path.join(os.path.dirname(os.path.abspath(__file__)), "..", "tests", "vectors", "base.tsv")
+        with open(vectors, encoding="utf-8") as file:
+            columns = next(line.split("\t") for line in file if line.startswith(name + "\t"))
+        self.bytes = bytes.fromhex(columns[1])
+
+
 FAMILIES = {
     "tiny": [whole_example()],
     "match": [rule_match(seed) for seed in range(64)],
@@ -145,6 +165,8 @@ FAMILIES = {
     "bound-64": [bound_chain(64)],
     "swaps-32": [many_swaps(32)],
     "clash-4-billion": [late_clash(512)],
+    "nested-200": [nested_pairs()],
+    "section-5.1": [Published("003 section 5.1, 64 variables, L 1048576")],
 }
 GROWTH = {"chain": chain, "shared": shared_pairs, "clash": late_clash}
 
