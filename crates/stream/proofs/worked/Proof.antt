@@ -1,0 +1,60 @@
+-- `stream::worked` prints the block of the two definitions.
+use Prim.Native.Nat.{ℕ}
+use mathlib.Core.List.{List}
+use mathlib.Core.Path.{_≡_, subst}
+use Rattle.run.specs.Answer as run
+use Rattle.solver.specs.Entries.{numberOf, placeOf, resultOf, judgementOf}
+use Rattle.solver.specs.declared.Verdict.{Verdict}
+use Rattle.solver.specs.declared.Judgement.{Judgement}
+use Rattle.printer.specs.Lines.{problemLines}
+use Rattle.printer.specs.Placed.{Placed}
+use Rattle.stream.specs.Block.{block, linesOf}
+use borrow.Author.Needs.{needs}
+use Rattle.stream.proofs.worked.Statement.{statement}
+use Rattle.stream.proofs.worked.Tie as tie
+
+-- What is printed of the two numbers and places is the block, where solver and judge gave back what the definitions say.
+told :
+    {n p m q r at : ℕ} {o d e : List ℕ} (v : Verdict) (k : Judgement) (s : run.Result) (j : run.Judgement) →
+    resultOf v o ≡ s → judgementOf k ≡ j → (n ≡ numberOf v) × (p ≡ placeOf v) → (m ≡ judgementOf k .0) × (q ≡ judgementOf k .1) →
+    Placed d at (problemLines n p o m q) r e → Placed d at (linesOf s j) r e
+told {n} {p} {m} {q} {r} {at} {o} {d} {e} v k s j f g a b h =
+    let same : problemLines n p o m q ≡ linesOf s j = cc in subst (λ l. Placed d at l r e) same h
+
+solve-with-requires : tie.Need-solve-with-requires
+solve-with-requires c κs = search needs
+
+judge-with-requires : tie.Need-judge-with-requires
+judge-with-requires c κs = search needs
+
+of-verdict-requires : tie.Need-of-verdict-requires
+of-verdict-requires c κs = search needs
+
+of-judgement-requires : tie.Need-of-judgement-requires
+of-judgement-requires c κs = search needs
+
+problem-lines-requires : tie.Need-problem-lines-requires
+problem-lines-requires c κs = search needs
+
+same-length : tie.Need-same-length
+same-length c = c .before .before .before .before .before .before .before .before .before .before .before .before .before .before .before .before .before .before .before .before .before .before .before .before .before .before .before .before .before .before .solve-with .kept .1 .0
+
+same-length-2 : tie.Need-same-length-2
+same-length-2 c = search needs
+
+returns : tie.Need-returns
+unfolding block
+returns c = told (c .before .before .before .before .before .before .before .before .before .before .before .before .before .before .before .before .before .before .before .before .before .before .before .before .before .before .before .before .before .before .solve-with .result) (c .before .before .before .before .before .before .before .judge-with .result) _ _ (c .before .before .before .before .before .before .before .before .before .before .before .before .before .before .before .before .before .before .before .before .before .before .before .before .before .before .before .before .before .before .solve-with .ensures) (c .before .before .before .before .before .before .before .judge-with .ensures) (c .before .before .before .before .before .before .of-verdict .ensures) (c .before .before .before .before .before .of-judgement .ensures) (c .before .before .problem-lines .ensures)
+
+pub worked-spec : {M : Type 1} → statement M
+worked-spec =
+    tie.close
+    (tie.spec
+    solve-with-requires
+    judge-with-requires
+    of-verdict-requires
+    of-judgement-requires
+    problem-lines-requires
+    same-length
+    same-length-2
+    returns)
