@@ -1,5 +1,6 @@
 #!/usr/bin/awk -f
-# Reads the lines that the programs print and says each in a sentence for people, with its number and place.
+# Reads the lines that the programs print and says each in a sentence for people, with its number and place. With program=stream each block of lines
+# gets a heading, and its last line is told to be the judge's.
 
 function equation(n) { return "equation " n " (counted from 0)" }
 function refused(n, o) {
@@ -19,15 +20,22 @@ function refused(n, o) {
     if (n == 14) return "it does not hold: some line does not follow from the assumptions."
     return "for a reason that this script does not know."
 }
-
-$1 == "accepted" { print "Accepted after " $2 ($2 == 1 ? " step" : " steps") ": the two sides of every equation have a common meaning."; next }
-$1 == "bind" {
-    moved = ""
-    for (i = 4; i <= NF; i++) if ($i != i - 4) moved = moved (moved == "" ? "" : ", ") (i - 4) " becomes " $i
-    print "  Variable " $2 " is node " $3 (moved == "" ? "." : ", its atoms renamed: " moved ".")
-    next
+function sentence(line,    word, count, i, moved) {
+    count = split(line, word, " ")
+    if (word[1] == "accepted") return "Accepted after " word[2] (word[2] == 1 ? " step" : " steps") ": the two sides of every equation have a common meaning."
+    if (word[1] == "bind") {
+        moved = ""
+        for (i = 4; i <= count; i++) if (word[i] != i - 4) moved = moved (moved == "" ? "" : ", ") (i - 4) " becomes " word[i]
+        return "  Variable " word[2] " is node " word[3] (moved == "" ? "." : ", its atoms renamed: " moved ".")
+    }
+    if (word[1] == "fresh") return "  Condition: atom " word[2] " is fresh for variable " word[3] "."
+    if (word[1] == "holds") return "Holds: every line follows from the assumptions."
+    if (word[1] == "refused") return "Refused (" word[2] ", place " word[3] "): " refused(word[2], word[3])
+    if (word[1] == "stream") return "The stream ends inside the length or the bytes of another problem."
+    return line
 }
-$1 == "fresh" { print "  Condition: atom " $2 " is fresh for variable " $3 "."; next }
-$1 == "holds" { print "Holds: every line follows from the assumptions."; next }
-$1 == "refused" { print "Refused (" $2 ", place " $3 "): " refused($2, $3); next }
-{ print }
+
+program != "stream" { print sentence($0); next }
+!kept && $1 == "stream" { print sentence($0); next }
+$0 != "" { if (!kept) print "Problem " (++problems) " of the stream."; else print sentence(held); held = $0; kept = 1; next }
+{ print "Judge: " sentence(held); print ""; kept = 0 }
