@@ -12,7 +12,7 @@ use lib.Seq.{getD-set-same, getD-set-other}
 use lib.Dec.{eqb}
 use borrow.Author.Tests.{eq-eqb, ne-eqb}
 use Rattle.permutation.specs.Table.{Table, image, inverted, placeFrom, place}
-use Rattle.permutation.proofs.Table.{image-inverted-place}
+use Rattle.permutation.proofs.Table.{getD-default, place-first, place-holds, image-inverted-place}
 use Rattle.sets.specs.Bits.{member, inserted, removed, lowest, members}
 use Rattle.sets.proofs.Bits.{by-member, member-empty, member-inserted-same, member-inserted-other, members-empty, members-lowest, in-members-member, member-within}
 use Rattle.run.specs.Run.{Subject, of-variable, of-side, Demand, demands}
@@ -197,6 +197,22 @@ placeFrom-lt i a (b ∷ P) h =
 -- An atom's place in a table is one of the table's.
 pub inverted-lt : (P : Table) (a : ℕ) → a < length P → image (inverted P) a < length P
 inverted-lt P a h = rw (image-inverted-place P a h) (let m : placeFrom 0 a P < 0 + length P = placeFrom-lt 0 a P (omega arith) in omega arith)
+
+-- The first place that holds the atom is the one that the inverse tells, and without one it tells 0.
+pub first-place : (P : Table) (a i : ℕ) → a < length P → i < length P → image P i ≡ a → ((k : ℕ) → k < i → image P k ≢ a) → i ≡ image (inverted P) a
+first-place P a i h l e n =
+    let f : place a P ≤ i = rw e at (place-first P i i l) in
+    let g : getD P (place a P) i ≡ a = rw e at (place-holds P i i l) in
+    by-eq (place a P) i
+    (λ q. sym (image-inverted-place P a h ∙ q))
+    (λ d. absurd (n (place a P) (omega arith) (getD-default P (place a P) (place a P) i (omega arith) ∙ g)))
+
+placeFrom-none : (i a d : ℕ) (P : Table) → ((k : ℕ) → k < length P → getD P k d ≢ a) → placeFrom i a P ≡ 0
+placeFrom-none i a d [] n = refl
+placeFrom-none i a d (b ∷ P) n = rw (ne-eqb a b (λ q. n 0 (omega arith) (sym q))) (placeFrom-none (suc i) a d P (λ k h. n (suc k) (omega arith)))
+
+pub no-place : (P : Table) (a : ℕ) → a < length P → ((k : ℕ) → k < length P → image P k ≢ a) → 0 ≡ image (inverted P) a
+no-place P a h n = sym (image-inverted-place P a h ∙ placeFrom-none 0 a a P (λ k l e. n k l (getD-default P k k a l ∙ e)))
 
 pub side-raised : (a : ℕ) (P : Table) (n k : ℕ) (s after : Sheet) → a < length P → length P ≤ 32 → length (s .sets) ≡ 512 → length (s .firsts) ≡ 16384
     → after ≡ marked n k (image (inverted P) a) s → SideRaised a P n k s after

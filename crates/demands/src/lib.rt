@@ -5,6 +5,7 @@
 ghost use mathlib.Core.Path.{_≡_};
 ghost use Prim.Native.Nat.{_+_, _*_, _≤_, _<_};
 ghost use lib.ListN.{length};
+ghost use Rattle.permutation.specs.Table.{image, inverted};
 ghost use Rattle.permutation.specs.Store.{table};
 ghost use Rattle.sets.specs.Bits.{members};
 ghost use Rattle.demands.specs.Demands.{sheet, marked, markedAll, emptied, SideRaised, VariableRaised};
@@ -64,6 +65,23 @@ fn mark_all(sets: &mut [u32], firsts: &mut [u8], row: usize, atoms: AtomSet, num
     }
 }
 
+// The atom whose image is a: of several the first counts, and it is 0 if there is none, as in the inverse.
+fn preimage(p: Permutation, n: usize, a: Atom) -> Atom
+    requires { ⌜ (n ≤ 32) × (a .0 < n) ⌝ }
+    ensures { λ r. ⌜ r .0 ≡ image (inverted (table n p)) (a .0) ⌝ }
+{
+    let mut i: usize = 0;
+    while i < n {
+        let c = Atom(i as u8);
+        let b = permutation::image(p, n, c);
+        if b.0 == a.0 {
+            return c;
+        }
+        i += 1;
+    }
+    Atom(0)
+}
+
 // "a is demanded fresh for t": of the side's node it is the atom that the side's images send to a.
 pub fn raise_side(
     a: Atom,
@@ -77,7 +95,7 @@ pub fn raise_side(
     requires { ⌜ (atoms ≤ 32) × (a .0 < atoms) × (node .0 < 512) ⌝ }
     ensures { λ r. ⌜ SideRaised (a .0) (table atoms p) (node .0) number (sheet (now («asked_nodes» .entry)) (now («first_nodes» .entry))) (sheet (now («asked_nodes» .exit)) (now («first_nodes» .exit))) ⌝ }
 {
-    let b = permutation::image(permutation::invert(p, atoms), atoms, a);
+    let b = preimage(p, atoms, a);
     mark(asked_nodes, first_nodes, node.0 as usize, b, number);
 }
 

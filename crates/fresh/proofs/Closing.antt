@@ -15,7 +15,7 @@ use Rattle.sets.proofs.Bits.{by-member, by-test, member-empty, member-union, me
 use Rattle.permutation.specs.Swaps.{inverse}
 use Rattle.permutation.specs.Table.{Table, image, inverted, Permutes}
 use Rattle.permutation.proofs.Swaps.{by-eq, within, within-inverse}
-use Rattle.permutation.proofs.Table.{image-inverted, inverted-image, permutes-inverted, length-inverted}
+use Rattle.permutation.proofs.Table.{by-lt, image-inverted, inverted-image, permutes-inverted, length-inverted}
 use Rattle.permutation.specs.Store.{table, ofTable}
 use Rattle.permutation.specs.declared.Permutation.{Permutation}
 use Rattle.permutation.proofs.Store.{table-ofTable}
@@ -25,7 +25,7 @@ use Rattle.problem.specs.Problem.{Node, Problem, unit-form, atom-form, abstract
 use Rattle.problem.specs.Readable.{Named}
 use Rattle.run.specs.Meaning.{Side}
 use Rattle.fresh.specs.Pairs.{Pair, of-node, of-variable, Leads, to-body, to-argument, to-left, to-right, to-variable, to-value, Reached, start, further, Closed, Resolved}
-use Rattle.fresh.specs.Marks.{Marked, Only, added, sentInto, Looked, Grown, Visited, Begun, Finished, valueAt, Bound, atomOf, newAt, Passed, clashAt, Clashed}
+use Rattle.fresh.specs.Marks.{Marked, Only, added, sentInto, Looked, Grown, Visited, Begun, Finished, valueAt, Bound, atomOf, newAt, NextBetween, Next, Passed, clashAt, Clashed}
 use Rattle.fresh.proofs.Sent.{sent-member, member-is-sent}
 use Rattle.fresh.proofs.Growth.{reached-through, looked-more, row-other, row-cases, difference-left}
 
@@ -234,6 +234,15 @@ module _ (bound X : ℕ) (asked done : List ℕ) where
       split true q j = eqb-true (newAt asked done X) 0 (sym q)
       split false q j = absurd (true≢false j)
 
+-- None from a number on and none before it.
+pub next-none : (bound : ℕ) (asked done : List ℕ) (least variables x y : ℕ) → NextBetween bound asked done least variables x → variables ≤ x → NextBetween bound asked done 0 least y → least ≤ y
+    → Next bound asked done variables variables
+next-none bound asked done least variables x y m h n k = record {
+  most = omega arith;
+  found = λ l. absurd (omega arith);
+  none = λ e X l q. by-lt X least (λ j. n .none (omega (arith, n .within)) X (omega arith) j q) (λ j. m .none (omega (arith, m .within)) X j l q);
+}
+
 pub below-one : (R : ℕ → Type 0) (i : ℕ) → ((k : ℕ) → k < i → R k) → R i → (k : ℕ) → k < i + 1 → R k
 below-one R i h e k l = by-eq k i (λ q. subst R (sym q) e) (λ d. h k (omega arith))
 
@@ -278,6 +287,18 @@ module _ (p : Problem) (wanted₀ asked₀ : List ℕ) where
       wanted value (of-node a n) (q, h) = rw q (start {w = of-node a i} (few, rw (← is-atoms) h))
       wanted value (of-variable a X) h = absurd h
 
+  -- Of this node nothing is demanded.
+  pub beginning-skip : (i : ℕ) (seen asked : List ℕ) → getD wanted₀ i 0 ≡ 0 → Beginning i seen asked → Beginning (i + 1) seen asked
+  beginning-skip i seen asked e b = record {
+    variables = b .variables;
+    nodes = λ a n l h.
+        by-eq n i
+        (λ q. absurd (true≢false (sym (h .1) ∙ ap (λ (k : ℕ). member (getD wanted₀ k 0) a) q ∙ ap (λ (w : ℕ). member w a) e ∙ member-empty a)))
+        (λ d. b .nodes a n (omega arith) h);
+    from = b .from;
+    looked = b .looked;
+  }
+
   pub beginning-end : (seen asked : List ℕ) → Beginning (length (p .nodes)) seen asked → Begun (p .nodes) (Marked p wanted₀ asked₀) (Marked p seen asked)
   beginning-end seen asked b = record { has = has; from = b .from; looked = b .looked }
     where
@@ -294,6 +315,14 @@ clash-some (abstraction-form a n) w e = absurd (true≢false (sym e))
 clash-some (pair-form l r) w e = absurd (true≢false (sym e))
 clash-some (application-form f n) w e = absurd (true≢false (sym e))
 clash-some (suspension-form π X) w e = absurd (true≢false (sym e))
+
+pub clash-none : (f : Node) (w : ℕ) → w ≡ 0 → clashAt f w ≡ false
+clash-none unit-form w e = refl
+clash-none (atom-form a) w e = ap (λ (w : ℕ). member w a) e ∙ member-empty a
+clash-none (abstraction-form a n) w e = refl
+clash-none (pair-form l r) w e = refl
+clash-none (application-form f n) w e = refl
+clash-none (suspension-form π X) w e = refl
 
 clash-here : (f : Node) (w a : ℕ) → f ≡ atom-form a → member w a ≡ true → clashAt f w ≡ true
 clash-here f w a q e = ap (λ (f : Node). clashAt f w) q ∙ e

@@ -198,6 +198,11 @@ module _ (p : Problem) (atoms n : ℕ) (seen asked : List ℕ) (few : n < length
         right value (of-node a i) (q, h) = rw q (further (begin value a h) (to-right e))
         right value (of-variable a X) h = absurd h
 
+    -- A pair of one node with itself: a second visit would find nothing new.
+    pub visited-twins : {After : pairs.Pair → Type 0} (x y : ℕ) → formAt (p .nodes) n ≡ pair-form x y → x ≡ y → Visited (p .nodes) new y (Marked p seen₁ asked) After
+        → Visited (p .nodes) atoms n (Marked p seen asked) After
+    visited-twins x y e q v = visited-pair x y e (rw q v) (record { grown = λ value. grown-none; here = v .here })
+
     -- "for a suspension if the atom sent to a is fresh for its variable"
     pub visited-suspension : (π : Swaps) (X : ℕ) (asked₁ : List ℕ) → formAt (p .nodes) n ≡ suspension-form π X → asked₁ ≡ added asked X (sentInto 32 (act π) new) → Within 32 π → X < p .variables
         → X < length asked → new < 2 ^ 32 → Visited (p .nodes) atoms n (Marked p seen asked) (Marked p seen₁ asked₁)
@@ -224,6 +229,11 @@ module _ (p : Problem) (atoms n : ℕ) (seen asked : List ℕ) (few : n < length
             further (begin value (act π a) (sent-member 32 (act π) new a (q .1) .1)) (to-variable e) in
             inr (rw (q .0) (rw inverse-act at r), tt))
             (row-cases asked X sent Y a la (rw is-asked at (h .1)))
+
+-- What is visited further on completes the visit that began: the tables are those of the beginning and those of now.
+abbrev pub Onward : Problem → ℕ → ℕ → List ℕ → List ℕ → ℕ → ℕ → List ℕ → List ℕ → Type 0
+Onward p atoms n seen₀ asked₀ more m seen asked =
+    (seen₁ asked₁ : List ℕ) → Visited (p .nodes) more m (Marked p seen asked) (Marked p seen₁ asked₁) → Visited (p .nodes) atoms n (Marked p seen₀ asked₀) (Marked p seen₁ asked₁)
 
 -- ---- the form, as the code is told it
 

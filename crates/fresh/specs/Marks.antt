@@ -87,7 +87,13 @@ atomOf (of-variable a X) = a
 unfoldable pub newAt : List ℕ → List ℕ → ℕ → ℕ
 newAt asked done X = difference (getD asked X 0) (getD done X 0)
 
--- The first bound variable that has such atoms; as many as there are variables, if there is none.
+-- The first bound variable that has such atoms, of those from one number up to another; that one, if there is none.
+pub record NextBetween (bound : ℕ) (asked done : List ℕ) (least most r : ℕ) : Type 0 where
+  pub within : r ≤ most
+  pub found : r < most → (member bound r ≡ true) × (0 < newAt asked done r)
+  pub none : r ≡ most → (X : ℕ) → least ≤ X → X < most → member bound X ≡ true → newAt asked done X ≡ 0
+
+-- A bound variable that has such atoms; as many as there are variables, if there is none.
 pub record Next (bound : ℕ) (asked done : List ℕ) (variables r : ℕ) : Type 0 where
   pub most : r ≤ variables
   pub found : r < variables → (member bound r ≡ true) × (0 < newAt asked done r)

@@ -14,7 +14,7 @@ ghost use Rattle.problem.specs.Held.{problemOf};
 ghost use Rattle.problem.specs.Look.{NodeStands, Suspended, formNow, swapsOf};
 ghost use Rattle.sets.specs.Bits.{member};
 ghost use Rattle.fresh.specs.Pairs.{Pair, Resolved};
-ghost use Rattle.fresh.specs.Marks.{Standing, Marked, added, sentInto, Visited, Begun, Finished, Looked, valueAt, Bound, atomOf, newAt, Next, Passed, clashAt, Clashed};
+ghost use Rattle.fresh.specs.Marks.{Standing, Marked, added, sentInto, Visited, Begun, Finished, Looked, valueAt, Bound, atomOf, newAt, NextBetween, Next, Passed, clashAt, Clashed};
 use names::Atom;
 use names::NodeId;
 use names::Variable;
@@ -120,7 +120,8 @@ fn ask(
 }
 
 // "Freshness is judged part by part, a compound term by its parts": marks the atoms at the node and what 003's rules lead to within its parts. Atoms
-// that come to a variable are left there.
+// that come to a variable are left there. A node's last part is the loop's next turn, so that only a pair's left part costs a call, and none where both
+// parts are one node: the second visit would find nothing new.
 pub fn visit(
     s: &[u8],
     places: &[u16; 512],
@@ -132,33 +133,43 @@ pub fn visit(
     requires { ⌜ Standing (now s) (now places) × (node .0 < length (problemOf (now s) .nodes)) ⌝ }
     ensures { λ r. ⌜ Visited (problemOf (now (s .entry)) .nodes) (atoms .0) (node .0) (Marked (problemOf (now (s .entry))) (now (seen .entry)) (now («asked_variables» .entry))) (Marked (problemOf (now (s .entry))) (now (seen .exit)) (now («asked_variables» .exit))) ⌝ }
 {
-    let n = node.0 as usize;
-    let new = atoms.minus(atoms_at(seen, n));
-    if new.is_empty() {
-        return;
-    }
-    add_atoms(seen, n, new);
-    let form = look::form_of(s, places, node);
-    match form {
-        Form::Unit => return,
-        Form::Atom(a) => return,
-        Form::Abstraction(a, m) => {
-            let rest = new.without(a);
-            visit(s, places, rest, m, seen, asked_variables);
+    let mut more = atoms;
+    let mut at = node;
+    loop {
+        let n = at.0 as usize;
+        let new = more.minus(atoms_at(seen, n));
+        if new.is_empty() {
             return;
         }
-        Form::Pair(l, r) => {
-            visit(s, places, new, l, seen, asked_variables);
-            visit(s, places, new, r, seen, asked_variables);
-            return;
-        }
-        Form::Application(f, m) => {
-            visit(s, places, new, m, seen, asked_variables);
-            return;
-        }
-        Form::Suspension(x) => {
-            ask(s, places, node, x, new, asked_variables);
-            return;
+        add_atoms(seen, n, new);
+        let form = look::form_of(s, places, at);
+        match form {
+            Form::Unit => return,
+            Form::Atom(a) => return,
+            Form::Abstraction(a, m) => {
+                let rest = new.without(a);
+                more = rest;
+                at = m;
+                continue;
+            }
+            Form::Pair(l, r) => {
+                more = new;
+                at = r;
+                if l.0 == r.0 {
+                    continue;
+                }
+                visit(s, places, new, l, seen, asked_variables);
+                continue;
+            }
+            Form::Application(f, m) => {
+                more = new;
+                at = m;
+                continue;
+            }
+            Form::Suspension(x) => {
+                ask(s, places, at, x, new, asked_variables);
+                return;
+            }
         }
     }
 }
@@ -175,24 +186,48 @@ fn waits(bound: VariableSet, asked_variables: &[u32], done: &[u32], x: usize) ->
     false
 }
 
-// The first variable that waits.
-fn next(
+// The first variable that waits, of those from one number up to another.
+fn next_between(
     bound: VariableSet,
     asked_variables: &[u32; 64],
     done: &[u32; 64],
-    variables: usize,
+    from: usize,
+    to: usize,
 ) -> usize
-    requires { ⌜ variables ≤ 64 ⌝ }
-    ensures { λ r. ⌜ Next (bound .0) (now («asked_variables» .entry)) (now (done .entry)) variables r ⌝ }
+    requires { ⌜ (from ≤ to) × (to ≤ 64) ⌝ }
+    ensures { λ r. ⌜ NextBetween (bound .0) (now («asked_variables» .entry)) (now (done .entry)) from to r ⌝ }
 {
-    let mut x: usize = 0;
-    while x < variables {
+    let mut x = from;
+    while x < to {
         if waits(bound, asked_variables, done, x) {
             return x;
         }
         x += 1;
     }
     x
+}
+
+// A variable that waits: the first from a number on, or else the first before it. Going round like this, a turn of `close` does not pass again all that
+// were found to wait no more.
+fn next(
+    bound: VariableSet,
+    asked_variables: &[u32; 64],
+    done: &[u32; 64],
+    from: usize,
+    variables: usize,
+) -> usize
+    requires { ⌜ (from ≤ variables) × (variables ≤ 64) ⌝ }
+    ensures { λ r. ⌜ Next (bound .0) (now («asked_variables» .entry)) (now (done .entry)) variables r ⌝ }
+{
+    let x = next_between(bound, asked_variables, done, from, variables);
+    if x < variables {
+        return x;
+    }
+    let y = next_between(bound, asked_variables, done, 0, from);
+    if y < from {
+        return y;
+    }
+    variables
 }
 
 // Passes a bound variable's new atoms on to its value.
@@ -237,8 +272,9 @@ fn close(
     requires small { ⌜ ((w : Pair) → Marked (problemOf (now s)) (now seen) (now «asked_variables») w → atomOf w < problemOf (now s) .atoms) ⌝ }
     ensures { λ r. ⌜ Finished (problemOf (now (s .entry)) .nodes) (valueAt (problemOf (now (s .entry)) .atoms) (bound .0) (now (roots .entry)) (now («value_images» .entry))) (Marked (problemOf (now (s .entry))) (now (seen .entry)) (now («asked_variables» .entry))) (Marked (problemOf (now (s .entry))) (now (seen .exit)) (now («asked_variables» .exit))) ⌝ }
 {
+    let mut x: usize = 0;
     loop {
-        let x = next(bound, asked_variables, done, variables);
+        x = next(bound, asked_variables, done, x, variables);
         if x == variables {
             break;
         }
@@ -256,7 +292,7 @@ fn close(
     }
 }
 
-// Visits each node with the atoms that are demanded of it.
+// Visits each node of which atoms are demanded.
 fn begin(
     s: &[u8],
     places: &[u16; 512],
@@ -272,8 +308,12 @@ fn begin(
     let mut n: usize = 0;
     while n < nodes {
         let atoms = atoms_at(asked_nodes, n);
-        visit(s, places, atoms, NodeId(n as u16), seen, asked_variables);
+        let node = NodeId(n as u16);
         n += 1;
+        if atoms.is_empty() {
+            continue;
+        }
+        visit(s, places, atoms, node, seen, asked_variables);
     }
 }
 
@@ -293,7 +333,7 @@ fn clashes_at(s: &[u8], places: &[u16; 512], node: NodeId, atoms: AtomSet) -> bo
     }
 }
 
-// Whether an atom is marked for a node that is that atom.
+// Whether an atom is marked for a node that is that atom. The form is looked at only where atoms are marked.
 fn clashing(s: &[u8], places: &[u16; 512], nodes: usize, seen: &[u32; 512]) -> bool
     requires { ⌜ Standing (now s) (now places) × (nodes ≡ length (problemOf (now s) .nodes)) ⌝ }
     ensures { λ r. ⌜ Clashed (problemOf (now (s .entry)) .nodes) (now (seen .entry)) r ⌝ }
@@ -301,10 +341,14 @@ fn clashing(s: &[u8], places: &[u16; 512], nodes: usize, seen: &[u32; 512]) -> b
     let mut n: usize = 0;
     while n < nodes {
         let atoms = atoms_at(seen, n);
-        if clashes_at(s, places, NodeId(n as u16), atoms) {
+        let node = NodeId(n as u16);
+        n += 1;
+        if atoms.is_empty() {
+            continue;
+        }
+        if clashes_at(s, places, node, atoms) {
             return true;
         }
-        n += 1;
     }
     false
 }

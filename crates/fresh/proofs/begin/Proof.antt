@@ -2,10 +2,11 @@
 use Prim.Native.Nat.{_-_, _≤_}
 use native.Mathlib.Omega.{arith}
 use borrow.Author.Needs.{needs}
-use mathlib.Core.Path.{_≡_}
+use borrow.Author.Tests.{eqb-true}
+use mathlib.Core.Path.{_≡_, sym, _∙_}
 use lib.ListN.{length}
 use Rattle.problem.specs.Held.{problemOf}
-use Rattle.fresh.proofs.Closing.{Beginning, beginning-start, beginning-more, beginning-end}
+use Rattle.fresh.proofs.Closing.{Beginning, beginning-start, beginning-more, beginning-skip, beginning-end}
 use Rattle.fresh.proofs.begin.Statement.{statement}
 use Rattle.fresh.proofs.begin.Tie as tie
 
@@ -24,17 +25,26 @@ atoms-at-requires c κs = omega (arith, c .before .before .before .before .pre .
 cast-t13 : tie.Need-cast-t13 Inv-loop μ-loop
 cast-t13 c = omega (arith, c .before .before .before .before .before .pre .0 .0 .readable .few-nodes, c .before .before .before .before .before .pre .0 .1)
 
-visit-requires : tie.Need-visit-requires Inv-loop μ-loop
-visit-requires c κs = (c .before .before .before .before .before .before .before .pre .0 .0, omega (arith, c .before .before .before .before .before .before .before .pre .0 .1, c .before .before .before .before .loop-test .taken))
-
 add-n : tie.Need-add-n Inv-loop μ-loop
 add-n c = search needs
+
+is-empty-requires : tie.Need-is-empty-requires Inv-loop μ-loop
+is-empty-requires c κs = search needs
 
 loop-less : tie.Need-loop-less Inv-loop μ-loop
 loop-less c = search needs
 
 loop-again : tie.Need-loop-again Inv-loop μ-loop
-loop-again c = (search needs, beginning-more _ _ _ (c .before .before .before .before .before .before .loop .n) _ _ _ _ _ (omega (arith, c .before .before .before .before .before .before .before .before .pre .0 .1, c .before .before .before .before .before .loop-test .taken)) (c .before .before .before .atoms-at .ensures) (c .before .before .before .before .before .before .loop .inv .1) (c .visit .ensures))
+loop-again c = (search needs, beginning-skip _ _ _ (c .before .before .before .before .before .loop .n) _ _ (sym (c .before .before .atoms-at .ensures) ∙ eqb-true _ 0 (sym (c .before .is-empty .ensures) ∙ c .if1 .taken)) (c .before .before .before .before .before .loop .inv .1))
+
+visit-requires : tie.Need-visit-requires Inv-loop μ-loop
+visit-requires c κs = (c .before .before .before .before .before .before .before .before .before .pre .0 .0, omega (arith, c .before .before .before .before .before .before .before .before .before .pre .0 .1, c .before .before .before .before .before .before .loop-test .taken))
+
+loop-less-2 : tie.Need-loop-less-2 Inv-loop μ-loop
+loop-less-2 c = search needs
+
+loop-again-2 : tie.Need-loop-again-2 Inv-loop μ-loop
+loop-again-2 c = (search needs, beginning-more _ _ _ (c .before .before .before .before .before .before .before .before .loop .n) _ _ _ _ _ (omega (arith, c .before .before .before .before .before .before .before .before .before .before .pre .0 .1, c .before .before .before .before .before .before .before .loop-test .taken)) (c .before .before .before .before .before .atoms-at .ensures) (c .before .before .before .before .before .before .before .before .loop .inv .1) (c .visit .ensures))
 
 returns : tie.Need-returns Inv-loop μ-loop
 returns c = let e : c .before .loop .n ≡ length (problemOf (c .before .before .before .args .s .now) .nodes) = omega (arith, c .before .before .before .pre .0 .1) in beginning-end (problemOf (c .before .before .before .args .s .now)) (c .before .before .before .args .asked-nodes .now) (c .before .before .before .args .asked-variables .now) _ _ (rw (← e) (c .before .loop .inv .1))
@@ -48,8 +58,11 @@ begin-spec =
     loop-holds
     atoms-at-requires
     cast-t13
-    visit-requires
     add-n
+    is-empty-requires
     loop-less
     loop-again
+    visit-requires
+    loop-less-2
+    loop-again-2
     returns)

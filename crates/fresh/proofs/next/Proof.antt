@@ -1,52 +1,27 @@
--- `next` meets its contract: no variable passed waits.
-use Prim.Native.Nat.{ℕ, _-_, _≤_, _<_}
+-- `next` meets its contract: what is not found from the one number on is looked for before it.
 use native.Mathlib.Omega.{arith}
 use borrow.Author.Needs.{needs}
-use mathlib.Core.Path.{_≡_}
-use mathlib.Core.Bool.{true}
-use Rattle.sets.specs.Bits.{member}
-use Rattle.fresh.specs.Marks.{newAt}
-use Rattle.fresh.proofs.Closing.{is-waiting, not-waiting, below-one}
+use Rattle.fresh.proofs.Closing.{next-none}
 use Rattle.fresh.proofs.next.Statement.{statement}
 use Rattle.fresh.proofs.next.Tie as tie
 
-abbrev Inv-loop : tie.InvT-loop
-Inv-loop bound asked-variables done variables x₀ x = (x ≤ variables) × ((X : ℕ) → X < x → member (bound .0) X ≡ true → newAt asked-variables done X ≡ 0)
+next-between-requires : tie.Need-next-between-requires
+next-between-requires c κs = search needs
 
-abbrev μ-loop : tie.MeasureT-loop
-μ-loop bound asked-variables done variables x₀ x = variables - x
+returns : tie.Need-returns
+returns c = let n = c .before .next-between .ensures in
+    record { most = n .within; found = n .found; none = λ e. absurd (omega (arith, c .if1 .taken)) }
 
-loop-holds : tie.Need-loop-holds Inv-loop μ-loop
-loop-holds c = (omega arith, λ X l. absurd (omega arith))
+next-between-requires-2 : tie.Need-next-between-requires-2
+next-between-requires-2 c κs = search needs
 
-waits-requires : tie.Need-waits-requires Inv-loop μ-loop
-waits-requires c κs = search needs
+returns-2 : tie.Need-returns-2
+returns-2 c = let n = c .before .next-between2 .ensures in
+    record { most = omega (arith, c .if2 .taken, c .before .before .before .before .pre .0); found = λ l. n .found (c .if2 .taken); none = λ e. absurd (omega (arith, c .if2 .taken, c .before .before .before .before .pre .0)) }
 
-returns : tie.Need-returns Inv-loop μ-loop
-returns c = record { most = omega arith; found = λ l. is-waiting (c .before .before .before .before .before .before .args .bound .0) (c .before .before .before .before .before .loop .x) (c .before .before .before .before .before .before .args .asked-variables .now) (c .before .before .before .before .before .before .args .done .now) (c .before .waits .result) (c .before .waits .ensures) (c .if1 .taken); none = λ e. absurd (omega arith) }
-
-add-x : tie.Need-add-x Inv-loop μ-loop
-add-x c = search needs
-
-loop-less : tie.Need-loop-less Inv-loop μ-loop
-loop-less c = search needs
-
-loop-again : tie.Need-loop-again Inv-loop μ-loop
-loop-again c = (search needs, below-one (λ X. member (c .before .before .before .before .before .before .args .bound .0) X ≡ true → newAt (c .before .before .before .before .before .before .args .asked-variables .now) (c .before .before .before .before .before .before .args .done .now) X ≡ 0) (c .before .before .before .before .before .loop .x) (c .before .before .before .before .before .loop .inv .1) (not-waiting (c .before .before .before .before .before .before .args .bound .0) (c .before .before .before .before .before .loop .x) (c .before .before .before .before .before .before .args .asked-variables .now) (c .before .before .before .before .before .before .args .done .now) (c .before .waits .result) (c .before .waits .ensures) (c .if1 .left)))
-
-returns-2 : tie.Need-returns-2 Inv-loop μ-loop
-returns-2 c = record { most = c .before .loop .inv .0; found = λ l. absurd (omega arith); none = λ e X l. c .before .loop .inv .1 X (omega arith) }
+returns-3 : tie.Need-returns-3
+returns-3 c = next-none _ _ _ _ _ _ _ (c .before .before .before .next-between .ensures) (omega (arith, c .before .before .if1 .left)) (c .before .next-between2 .ensures) (omega (arith, c .if2 .left))
 
 pub next-spec : {M : Type 1} → statement M
 next-spec =
-    tie.close
-    (tie.spec
-    Inv-loop
-    μ-loop
-    loop-holds
-    waits-requires
-    returns
-    add-x
-    loop-less
-    loop-again
-    returns-2)
+    tie.close (tie.spec next-between-requires returns next-between-requires-2 returns-2 returns-3)
