@@ -1,4 +1,16 @@
 // One problem on standard input, the judge's line on standard output. An input over 65,535 bytes fills the room of 65,536, and the judge refuses it.
+ghost use Rattle.run.specs.Answer as run;
+ghost use Rattle.printer.specs.Placed.{Placed};
+ghost use Rattle.judge.specs.Printing.{lineOf};
+
+// What the problem prints, in `out` from its start, and where that ends.
+fn worked(input: &[u8], out: &mut [u8]) -> usize
+    ensures { λ r. ⌜ Placed (now (out .entry)) 0 (lineOf (run.judge (now (input .entry)))) r (now (out .exit)) ⌝ }
+{
+    let judgement = solver::entries::judge(input);
+    let given = numbers::of_judgement(judgement);
+    printer::judge_line(out, 0, given.number, given.place)
+}
 
 fn main() {
     let mut input = io::large_buffer();
@@ -8,9 +20,7 @@ fn main() {
         return;
     }
     let count = filled.count;
-    let judgement = solver::entries::judge(&input[..count]);
-    let given = numbers::of_judgement(judgement);
     let mut out = io::buffer();
-    let end = printer::judge_line(&mut out, 0, given.number, given.place);
+    let end = worked(&input[..count], &mut out);
     io::write_all(1, &out[..end]);
 }
