@@ -13,15 +13,16 @@ use lib.Seq.{getD-set-same, getD-set-other, take-suc-set, length-take-le, getD-t
 use lib.Dec.{eqb}
 use borrow.Author.Tests.{eq-eqb, ne-eqb}
 use Rattle.permutation.specs.Table.{Table}
-use Rattle.permutation.specs.Store.{ofTable}
+use Rattle.permutation.specs.Store.{table, ofTable}
 use Rattle.permutation.proofs.Swaps.{by-eq}
-use Rattle.permutation.proofs.Store.{table-ofTable}
+use Rattle.permutation.proofs.Store.{length-table}
 use Rattle.sets.specs.Bits.{member, inserted, among}
 use Rattle.sets.proofs.Bits.{member-empty, member-inserted, inserted-lt, count-empty, count-le, count-inserted, member-within}
 use Rattle.rows.specs.Rows.{row}
-use Rattle.rows.proofs.Rows.{length-row, row-withRow, row-other}
+use Rattle.rows.proofs.Rows.{row-other, table-row, row-table}
 use Rattle.run.specs.Meaning.{Binding}
 use Rattle.run.specs.Run.{valueOf}
+use Rattle.bindings.specs.declared.Value.{Value}
 use Rattle.bindings.specs.declared.Found.{Found}
 use Rattle.bindings.specs.declared.Made.{Made}
 use Rattle.bindings.specs.Bindings.{Bindings, tables, bindingAt, bindingsOf, Keeps, sideOf, withBinding, Added, foundAt, valueIn, LookedUp, madeOf, MadeAt, bindingOf}
@@ -112,45 +113,49 @@ pub record Room (X : ℕ) (t : Bindings) : Type 0 where
   pub valueImages : X * 32 + 32 ≤ length (t .valueImages)
   pub madeBy : X < length (t .madeBy)
 
-module _ (A : ℕ) (s : A ≤ 32) (k : ℕ) (b : Binding) (t : Bindings) (r : Room (b .variable) t) (l : length (b .value .images) ≡ A) where
-  pub bindingAt-new : bindingAt A (withBinding k b t) (b .variable) ≡ b
-  unfolding bindingAt withBinding
-  bindingAt-new =
-      binding-of (b .variable) _ _ _ _ _ _ (row-withRow (b .variable) (b .value .images) (t .valueImages) A l (omega arith))
-      (getD-set-same (t .roots) (b .variable) (b .value .node) 0 (r .roots))
-      (getD-set-same (t .madeBy) (b .variable) (b .equation) 0 (r .madeBy))
+-- A binding that was added: at its variable it is read for any number of atoms, and every other variable's stays.
+module _ (k X : ℕ) (v : Value) (number : ℕ) (t : Bindings) (r : Room X t) (l : length (v .images .images) ≡ 32) where
+  module _ (A : ℕ) (s : A ≤ 32) where
+    pub bindingAt-new : bindingAt A (withBinding k (bindingOf 32 X v number) t) X ≡ bindingOf A X v number
+    unfolding bindingAt withBinding bindingOf sideOf
+    bindingAt-new =
+        binding-of X _ _ _ _ _ _ (row-table A 32 s X (v .images) (t .valueImages) (omega arith) (omega arith))
+        (getD-set-same (t .roots) X (v .node .0) 0 (r .roots))
+        (getD-set-same (t .madeBy) X number 0 (r .madeBy))
 
-  pub bindingAt-other : (X : ℕ) → X ≢ b .variable → bindingAt A (withBinding k b t) X ≡ bindingAt A t X
-  unfolding bindingAt withBinding
-  bindingAt-other X n =
-      binding-of X _ _ _ _ _ _ (row-other (b .variable) (b .value .images) (t .valueImages) A X n s (omega arith) (omega arith))
-      (getD-set-other (t .roots) (b .variable) X (b .value .node) 0 n)
-      (getD-set-other (t .madeBy) (b .variable) X (b .equation) 0 n)
+    pub bindingAt-other : (Y : ℕ) → Y ≢ X → bindingAt A (withBinding k (bindingOf 32 X v number) t) Y ≡ bindingAt A t Y
+    unfolding bindingAt withBinding bindingOf sideOf
+    bindingAt-other Y n =
+        let i : length (table 32 (v .images)) ≡ 32 = length-table 32 (v .images) (omega arith) in
+        binding-of Y _ _ _ _ _ _ (row-other X (table 32 (v .images)) (t .valueImages) A Y n s (omega arith) (omega arith))
+        (getD-set-other (t .roots) X Y (v .node .0) 0 n)
+        (getD-set-other (t .madeBy) X Y number 0 n)
 
-  module _ (bound : ℕ) (h : Keeps (t .order) k bound) (u : member bound (b .variable) ≡ false) (room : k < length (t .order)) where
-    earlier : (X : ℕ) → among X (take k (t .order)) ≡ true → X ≢ b .variable
-    earlier X a e =
-        let z : true ≡ false = sym a ∙ sym (h .holds X) ∙ ap (member bound) e ∙ u in
+  module _ (bound : ℕ) (h : Keeps (t .order) k bound) (u : member bound X ≡ false) (room : k < length (t .order)) where
+    earlier : (Y : ℕ) → among Y (take k (t .order)) ≡ true → Y ≢ X
+    earlier Y a e =
+        let z : true ≡ false = sym a ∙ sym (h .holds Y) ∙ ap (member bound) e ∙ u in
         let y : _≡_ {A = ℕ} 0 1 = cc in omega arith
 
-    pub bindingsOf-added : bindingsOf A (withBinding k b t) (k + 1) ≡ bindingsOf A t k ++ (b ∷ [])
-    unfolding bindingsOf withBinding
-    bindingsOf-added =
-        ap (map (bindingAt A (withBinding k b t))) (take-more (t .order) k (b .variable) room)
-        ∙ map-append (bindingAt A (withBinding k b t)) (take k (t .order)) (b .variable ∷ [])
+    pub bindingsOf-added : (A : ℕ) → A ≤ 32 → bindingsOf A (withBinding k (bindingOf 32 X v number) t) (k + 1) ≡ bindingsOf A t k ++ (bindingOf A X v number ∷ [])
+    unfolding bindingsOf withBinding bindingOf
+    bindingsOf-added A s =
+        let w = withBinding k (bindingOf 32 X v number) t in
+        ap (map (bindingAt A w)) (take-more (t .order) k X room)
+        ∙ map-append (bindingAt A w) (take k (t .order)) (X ∷ [])
         ∙ ap₂ (λ (x : List Binding) (y : Binding). x ++ (y ∷ []))
-        (map-same (bindingAt A (withBinding k b t)) (bindingAt A t) (take k (t .order)) (λ X a. bindingAt-other X (earlier X a)))
-        bindingAt-new
+        (map-same (bindingAt A w) (bindingAt A t) (take k (t .order)) (λ Y a. bindingAt-other A s Y (earlier Y a)))
+        (bindingAt-new A s)
 
     -- What the code of `add` leaves.
-    pub added : b .variable < 64 → (after : Bindings) (w : ℕ) → after ≡ withBinding k b t → w ≡ inserted 64 bound (b .variable) → Added A t k bound b after w
-    unfolding withBinding
+    pub added : X < 64 → (after : Bindings) (w : ℕ) → after ≡ withBinding k (bindingOf 32 X v number) t → w ≡ inserted 64 bound X → Added t k bound X v number after w
+    unfolding withBinding bindingOf
     added x after w c e =
         record {
           content = c;
           set = e;
-          bindings = ap (λ (z : Bindings). bindingsOf A z (k + 1)) c ∙ bindingsOf-added;
-          keeps = rw (c, e) (keeps-more (t .order) k bound h (b .variable) x u room);
+          bindings = λ A s. ap (λ (z : Bindings). bindingsOf A z (k + 1)) c ∙ bindingsOf-added A s;
+          keeps = rw (c, e) (keeps-more (t .order) k bound h X x u room);
         }
 
 -- ---- looking a variable up
@@ -175,40 +180,40 @@ pub valueIn-unbound : (A : ℕ) (f : Found) → f .bound ≡ false → valueIn A
 unfolding valueIn
 valueIn-unbound A f e = rw e
 
-module _ (A : ℕ) (roots valueImages : List ℕ) (bound X : ℕ) where
-  found-bound : member bound X ≡ true → foundAt A roots valueImages bound X ≡ record { bound = true; value = record { images = ofTable (row A X valueImages); node = record { 0 = getD roots X 0 } } }
+module _ (roots valueImages : List ℕ) (bound X : ℕ) where
+  found-bound : member bound X ≡ true → foundAt roots valueImages bound X ≡ record { bound = true; value = record { images = ofTable (row 32 X valueImages); node = record { 0 = getD roots X 0 } } }
   unfolding foundAt
   found-bound m = rw m
 
-  found-unbound : member bound X ≡ false → foundAt A roots valueImages bound X ≡ record { bound = false; value = record { images = ofTable []; node = record { 0 = 0 } } }
+  found-unbound : member bound X ≡ false → foundAt roots valueImages bound X ≡ record { bound = false; value = record { images = ofTable []; node = record { 0 = 0 } } }
   unfolding foundAt
   found-unbound m = rw m
 
   -- What the code of `look_up` makes, of a bound variable and of another.
-  pub looked-up-bound : (r : Found) → member bound X ≡ true → X * 32 + A ≤ length valueImages
-      → r ≡ record { bound = true; value = record { images = ofTable (row A X valueImages); node = record { 0 = getD roots X 0 } } } → LookedUp A roots valueImages bound X r
+  pub looked-up-bound : (r : Found) → member bound X ≡ true → X * 32 + 32 ≤ length valueImages
+      → r ≡ record { bound = true; value = record { images = ofTable (row 32 X valueImages); node = record { 0 = getD roots X 0 } } } → LookedUp roots valueImages bound X r
   unfolding bindingAt valueIn sideOf
   looked-up-bound r m l e =
       record {
         content = e ∙ sym (found-bound m);
-        value = λ order madeBy k h.
+        value = λ A s order madeBy k h.
             valueOf-set A (tables order roots valueImages madeBy) k bound h X
-            ∙ rw (m, e) (ap (λ (P : Table). some (record { images = P; node = getD roots X 0 })) (sym (table-ofTable A (row A X valueImages) (length-row A X valueImages l))));
+            ∙ rw (m, e) (ap (λ (P : Table). some (record { images = P; node = getD roots X 0 })) (sym (table-row A 32 s X valueImages l)));
       }
 
-  pub looked-up-unbound : (r : Found) → member bound X ≡ false → r ≡ record { bound = false; value = record { images = ofTable []; node = record { 0 = 0 } } } → LookedUp A roots valueImages bound X r
+  pub looked-up-unbound : (r : Found) → member bound X ≡ false → r ≡ record { bound = false; value = record { images = ofTable []; node = record { 0 = 0 } } } → LookedUp roots valueImages bound X r
   unfolding valueIn
   looked-up-unbound r m e =
-      record { content = e ∙ sym (found-unbound m); value = λ order madeBy k h. valueOf-set A (tables order roots valueImages madeBy) k bound h X ∙ rw (m, e) }
+      record { content = e ∙ sym (found-unbound m); value = λ A s order madeBy k h. valueOf-set A (tables order roots valueImages madeBy) k bound h X ∙ rw (m, e) }
 
 -- ---- reading a binding
 
 -- What the code of `made_at` makes.
-pub made-at : (A : ℕ) (t : Bindings) (i : ℕ) (r : Made) → getD (t .order) i 0 * 32 + A ≤ length (t .valueImages) → r ≡ madeOf A t (getD (t .order) i 0) → MadeAt A t i r
+pub made-at : (t : Bindings) (i : ℕ) (r : Made) → getD (t .order) i 0 * 32 + 32 ≤ length (t .valueImages) → r ≡ madeOf t (getD (t .order) i 0) → MadeAt t i r
 unfolding bindingAt bindingOf sideOf madeOf
-made-at A t i r l e =
+made-at t i r l e =
     let X = getD (t .order) i 0 in
     record {
       content = e;
-      binding = rw e (binding-of X _ _ _ _ _ _ (sym (table-ofTable A (row A X (t .valueImages)) (length-row A X (t .valueImages) l))) refl refl);
+      binding = λ A s. rw e (binding-of X _ _ _ _ _ _ (sym (table-row A 32 s X (t .valueImages) l)) refl refl);
     }

@@ -40,7 +40,7 @@ pub record Keeps (order : List ℕ) (k bound : ℕ) : Type 0 where
   pub within : bound < 2 ^ 64
   pub placed : k ≤ length order
 
--- The definition's value and binding of those that the code holds.
+-- The definition's value and binding of those that the code holds, with A atoms in use. With 32 of them the images are a whole row.
 unfoldable pub sideOf : ℕ → Value → Side
 sideOf A v = record { images = table A (v .images); node = v .node .0 }
 
@@ -57,37 +57,37 @@ withBinding k b t =
       madeBy = set (t .madeBy) (b .variable) (b .equation);
     }
 
--- What adding a binding does: the tables' whole content and the set, and what they are as bindings.
-pub record Added (A : ℕ) (before : Bindings) (k bound : ℕ) (b : Binding) (after : Bindings) (r : ℕ) : Type 0 where
-  pub content : after ≡ withBinding k b before
-  pub set : r ≡ inserted 64 bound (b .variable)
-  pub bindings : bindingsOf A after (k + 1) ≡ bindingsOf A before k ++ (b ∷ [])
+-- What adding a binding does: the tables' whole content and the set, and what they are as bindings, for any number of atoms in use.
+pub record Added (before : Bindings) (k bound X : ℕ) (v : Value) (number : ℕ) (after : Bindings) (r : ℕ) : Type 0 where
+  pub content : after ≡ withBinding k (bindingOf 32 X v number) before
+  pub set : r ≡ inserted 64 bound X
+  pub bindings : (A : ℕ) → A ≤ 32 → bindingsOf A after (k + 1) ≡ bindingsOf A before k ++ (bindingOf A X v number ∷ [])
   pub keeps : Keeps (after .order) (k + 1) r
 
--- What the code makes of the variable X.
-unfoldable pub foundAt : ℕ → List ℕ → List ℕ → ℕ → ℕ → Found
-foundAt A roots valueImages bound X =
-    cond (member bound X) (record { bound = true; value = record { images = ofTable (row A X valueImages); node = record { 0 = getD roots X 0 } } })
+-- What the code makes of the variable X: rows are read whole, however many atoms are in use.
+unfoldable pub foundAt : List ℕ → List ℕ → ℕ → ℕ → Found
+foundAt roots valueImages bound X =
+    cond (member bound X) (record { bound = true; value = record { images = ofTable (row 32 X valueImages); node = record { 0 = getD roots X 0 } } })
     (record { bound = false; value = record { images = ofTable []; node = record { 0 = 0 } } })
 
 unfoldable pub valueIn : ℕ → Found → Option Side
 valueIn A f = cond (f .bound) (some (sideOf A (f .value))) none
 
 -- What looking a variable up gives: the definition's value, under any order that the set of bound variables belongs to.
-pub record LookedUp (A : ℕ) (roots valueImages : List ℕ) (bound X : ℕ) (r : Found) : Type 0 where
-  pub content : r ≡ foundAt A roots valueImages bound X
-  pub value : (order madeBy : List ℕ) (k : ℕ) → Keeps order k bound → valueOf (bindingsOf A (tables order roots valueImages madeBy) k) X ≡ valueIn A r
+pub record LookedUp (roots valueImages : List ℕ) (bound X : ℕ) (r : Found) : Type 0 where
+  pub content : r ≡ foundAt roots valueImages bound X
+  pub value : (A : ℕ) → A ≤ 32 → (order madeBy : List ℕ) (k : ℕ) → Keeps order k bound → valueOf (bindingsOf A (tables order roots valueImages madeBy) k) X ≡ valueIn A r
 
 -- What the code makes of the binding of the variable X.
-unfoldable pub madeOf : ℕ → Bindings → ℕ → Made
-madeOf A t X =
+unfoldable pub madeOf : Bindings → ℕ → Made
+madeOf t X =
     record {
       variable = record { 0 = X };
-      value = record { images = ofTable (row A X (t .valueImages)); node = record { 0 = getD (t .roots) X 0 } };
+      value = record { images = ofTable (row 32 X (t .valueImages)); node = record { 0 = getD (t .roots) X 0 } };
       number = getD (t .madeBy) X 0;
     }
 
 -- What reading the binding at place i of the order gives: the definition's binding, which `bindingsOf` has there.
-pub record MadeAt (A : ℕ) (t : Bindings) (i : ℕ) (r : Made) : Type 0 where
-  pub content : r ≡ madeOf A t (getD (t .order) i 0)
-  pub binding : bindingAt A t (getD (t .order) i 0) ≡ bindingOf A (r .variable .0) (r .value) (r .number)
+pub record MadeAt (t : Bindings) (i : ℕ) (r : Made) : Type 0 where
+  pub content : r ≡ madeOf t (getD (t .order) i 0)
+  pub binding : (A : ℕ) → A ≤ 32 → bindingAt A t (getD (t .order) i 0) ≡ bindingOf A (r .variable .0) (r .value) (r .number)

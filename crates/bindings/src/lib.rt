@@ -1,13 +1,15 @@
 // The bindings, in tables that the caller lends: the variables in the order in which they were bound, and by variable the value's node, its images
 // and the number of the equation that made the binding. Tables may hold anything where no variable is bound, so that none is ever cleared: which
 // variables are bound says a set that is passed and returned by value.
+//
+// Images are read and written as whole rows, whatever the number of atoms in use: so no function here takes that number, and each contract is for all.
 
 ghost use mathlib.Core.Path.{_≡_};
 ghost use mathlib.Core.Bool.{false};
-ghost use Prim.Native.Nat.{_<_, _≤_};
+ghost use Prim.Native.Nat.{_<_};
 ghost use lib.ListN.{getD};
 ghost use Rattle.sets.specs.Bits.{member};
-ghost use Rattle.bindings.specs.Bindings.{tables, bindingOf, Keeps, Added, LookedUp, MadeAt};
+ghost use Rattle.bindings.specs.Bindings.{tables, Keeps, Added, LookedUp, MadeAt};
 use names::NodeId;
 use names::Variable;
 use permutation::Permutation;
@@ -43,17 +45,16 @@ pub fn add(
     x: Variable,
     value: Value,
     number: u8,
-    atoms: usize,
 ) -> VariableSet
-    requires { ⌜ Keeps (now order) k (bound .0) × (member (bound .0) (x .0) ≡ false) × (x .0 < 64) × (atoms ≤ 32) ⌝ }
-    ensures { λ r. ⌜ Added atoms (tables (now (order .entry)) (now (roots .entry)) (now («value_images» .entry)) (now («made_by» .entry))) k (bound .0) (bindingOf atoms (x .0) value number) (tables (now (order .exit)) (now (roots .exit)) (now («value_images» .exit)) (now («made_by» .exit))) (r .0) ⌝ }
+    requires { ⌜ Keeps (now order) k (bound .0) × (member (bound .0) (x .0) ≡ false) × (x .0 < 64) ⌝ }
+    ensures { λ r. ⌜ Added (tables (now (order .entry)) (now (roots .entry)) (now («value_images» .entry)) (now («made_by» .entry))) k (bound .0) (x .0) value number (tables (now (order .exit)) (now (roots .exit)) (now («value_images» .exit)) (now («made_by» .exit))) (r .0) ⌝ }
 {
     let i = x.0 as usize;
     let images = value.images;
     rows::set_byte(order, k, x.0);
     rows::set_number(roots, i, value.node.0);
     rows::set_byte(made_by, i, number);
-    rows::store(value_images, i, atoms, images);
+    rows::store(value_images, i, 32, images);
     bound.with(x)
 }
 
@@ -63,14 +64,12 @@ pub fn look_up(
     value_images: &[u8; 2048],
     bound: VariableSet,
     x: Variable,
-    atoms: usize,
 ) -> Found
-    requires { ⌜ atoms ≤ 32 ⌝ }
-    ensures { λ r. ⌜ LookedUp atoms (now (roots .entry)) (now («value_images» .entry)) (bound .0) (x .0) r ⌝ }
+    ensures { λ r. ⌜ LookedUp (now (roots .entry)) (now («value_images» .entry)) (bound .0) (x .0) r ⌝ }
 {
     if bound.has(x) {
         let i = x.0 as usize;
-        let images = rows::load(value_images, i, atoms);
+        let images = rows::load(value_images, i, 32);
         let node = NodeId(rows::number(roots, i));
         let value = Value {
             images: images,
@@ -99,14 +98,13 @@ pub fn made_at(
     value_images: &[u8; 2048],
     made_by: &[u8; 64],
     i: usize,
-    atoms: usize,
 ) -> Made
-    requires { ⌜ (i < 64) × (getD (now order) i 0 < 64) × (atoms ≤ 32) ⌝ }
-    ensures { λ r. ⌜ MadeAt atoms (tables (now (order .entry)) (now (roots .entry)) (now («value_images» .entry)) (now («made_by» .entry))) i r ⌝ }
+    requires { ⌜ (i < 64) × (getD (now order) i 0 < 64) ⌝ }
+    ensures { λ r. ⌜ MadeAt (tables (now (order .entry)) (now (roots .entry)) (now («value_images» .entry)) (now («made_by» .entry))) i r ⌝ }
 {
     let x = rows::byte(order, i);
     let v = x as usize;
-    let images = rows::load(value_images, v, atoms);
+    let images = rows::load(value_images, v, 32);
     let node = NodeId(rows::number(roots, v));
     let value = Value {
         images: images,

@@ -8,29 +8,29 @@ use Rattle.names.specs.declared.NodeId.{NodeId}
 use Rattle.permutation.specs.Table.{Table, after, inverted, swappedAfter, disagreement}
 use Rattle.permutation.specs.Store.{table, ofTable}
 use Rattle.permutation.specs.declared.Permutation.{Permutation}
-use Rattle.permutation.proofs.Table.{length-inverted}
-use Rattle.permutation.proofs.Store.{table-ofTable, length-table, table-after, table-inverted, table-swappedAfter, members-disagreement}
+use Rattle.permutation.proofs.Table.{length-after}
+use Rattle.permutation.proofs.Store.{table-ofTable, length-table, table-inverted, table-swappedAfter, members-disagreement}
 use Rattle.sets.specs.Bits.{members, ofList}
 use Rattle.run.specs.Meaning.{Side, Binding}
 use Rattle.run.specs.Run.{Equation, of-variable, of-side, Demand, under, pending, bindings, demands}
 use Rattle.stack.specs.Stack.{Stack, stackOf, equationOf, Pushed}
 use Rattle.stack.specs.declared.Pending.{Pending}
-use Rattle.bindings.specs.Bindings.{Bindings, bindingsOf, Keeps, sideOf, bindingOf, Added}
+use Rattle.bindings.specs.Bindings.{Bindings, bindingsOf, Keeps, sideOf, bindingOf}
 use Rattle.bindings.specs.declared.Value.{Value}
 use Rattle.demands.specs.Demands.{Sheet, Raised, SideRaised, VariableRaised}
 use Rattle.machine.specs.Side.{sideAt, wholeOf}
 use Rattle.sets.specs.declared.VariableSet.{VariableSet}
 use Rattle.problem.specs.Held.{problemOf}
 use Rattle.machine.specs.declared.perform.Outcome.the-variants.{Goes}
-use Rattle.machine.specs.Step.{Grown, RenamedTo, DisagreementRaised, bindingTo, tablesOf, GoneOn}
+use Rattle.machine.specs.Step.{Grown, RenamedTo, DisagreementRaised, heldValue, BoundTo, tablesOf, GoneOn}
 use Rattle.machine.proofs.Resolving.{length-whole}
 
 -- ---- equations
 
-pub grown-one : (A n : ℕ) (before after : Stack) (e : Pending) → Pushed A before n e after
+pub grown-one : (n : ℕ) (before after : Stack) (e : Pending) → Pushed before n e after → (A : ℕ) → A ≤ 32
     → Grown A (e .number) ((sideAt A (e .left) (e .«left_node»), sideAt A (e .right) (e .«right_node»)) ∷ []) before n after (n + 1)
 unfolding equationOf
-grown-one A n before after e h = h .stack
+grown-one n before after e h A s = h .stack A s
 
 pub grown-two : (A number n : ℕ) (s t u v : Side) (before between after : Stack) → Grown A number ((u, v) ∷ []) before n between (n + 1)
     → Grown A number ((s, t) ∷ []) between (n + 1) after (n + 1 + 1) → Grown A number ((s, t) ∷ (u, v) ∷ []) before n after (n + 2)
@@ -48,27 +48,24 @@ renamed-to A number n a b s q swapped k before after asked now-asked h l e g d =
 -- ---- demands
 
 pub disagreement-raised : (s : List ℕ) (A : ℕ) (P Q : Table) (m k X number : ℕ) (left right : Permutation) (w : ℕ) (before after : Sheet) → A ≤ 32
-    → left ≡ ofTable (wholeOf s A P m) → right ≡ ofTable (wholeOf s A Q k) → w ≡ ofList 32 (disagreement (table A left) (table A right))
+    → table A left ≡ wholeOf s A P m → table A right ≡ wholeOf s A Q k → w ≡ ofList 32 (disagreement (table A left) (table A right))
     → VariableRaised w X number before after → DisagreementRaised (wholeOf s A P m) (wholeOf s A Q k) X number before after
-disagreement-raised s A P Q m k X number left right w before after h e f g v nodes variables ds onNodes x y r =
+disagreement-raised s A P Q m k X number left right w before after h i j g v nodes variables ds onNodes x y r =
     let l : length (wholeOf s A P m) ≡ A = length-whole s A P m in
-    let i : table A left ≡ wholeOf s A P m = ap (table A) e ∙ table-ofTable A (wholeOf s A P m) l in
-    let j : table A right ≡ wholeOf s A Q k = ap (table A) f ∙ table-ofTable A (wholeOf s A Q k) (length-whole s A Q k) in
     let z : members 32 w ≡ disagreement (wholeOf s A P m) (wholeOf s A Q k) = ap (members 32) g ∙ rw (i, j) (members-disagreement (wholeOf s A P m) (wholeOf s A Q k) (omega arith)) in
     rw z at (v .raised nodes variables ds onNodes x y r)
 
 -- ---- a binding
 
-pub binding-is : (s : List ℕ) (A : ℕ) (P : Table) (m X number : ℕ) (outer back images q : Permutation) (k : NodeId) → A ≤ 32 → length (q .images) ≡ 32
-    → outer ≡ ofTable (wholeOf s A P m) → back ≡ ofTable (inverted (table A outer)) → images ≡ ofTable (after (table A back) (table A q))
-    → bindingOf A X (record { images = images; node = k }) number ≡ bindingTo X (under (inverted (wholeOf s A P m)) (sideAt A q k)) number
-unfolding bindingOf sideOf
-binding-is s A P m X number outer back images q k h l e f g =
-    let n : length (wholeOf s A P m) ≡ A = length-whole s A P m in
-    let i : table A outer ≡ wholeOf s A P m = ap (table A) e ∙ table-ofTable A (wholeOf s A P m) n in
-    let j : table A back ≡ inverted (wholeOf s A P m) = ap (table A) f ∙ rw i (table-inverted A (wholeOf s A P m) n) in
-    let o : table A images ≡ after (inverted (wholeOf s A P m)) (table A q) = ap (table A) g ∙ rw j (table-after A (inverted (wholeOf s A P m)) (table A q) (length-table A q (omega arith))) in
-    ap (λ (T : Table). bindingTo X (record { images = T; node = k .0 }) number) o
+pub value-is : (s : List ℕ) (A : ℕ) (P : Table) (m : ℕ) (outer back images q : Permutation) (k : NodeId)
+    → table A outer ≡ wholeOf s A P m → back ≡ ofTable (inverted (table A outer)) → images ≡ ofTable (after (table A back) (table A q))
+    → record { images = images; node = k } ≡ heldValue (under (inverted (wholeOf s A P m)) (sideAt A q k))
+value-is s A P m outer back images q k e f g =
+    let j : table A back ≡ inverted (wholeOf s A P m) = ap (table A) f ∙ rw e (table-inverted A (wholeOf s A P m) (length-whole s A P m)) in
+    ap (λ (p : Permutation). record { images = p; node = k }) (g ∙ rw j)
+
+pub length-value : (A : ℕ) (P : Table) (q : Permutation) (k : NodeId) → A ≤ 32 → length (q .images) ≡ 32 → length (under P (sideAt A q k) .images) ≡ A
+length-value A P q k h l = length-after P (table A q) ∙ length-table A q (omega arith)
 
 -- ---- what goes on
 
@@ -113,16 +110,17 @@ module _ (s : List ℕ) (A number n count : ℕ) (w : VariableSet) (made : Bindi
         raised = λ ds r. h (length (problemOf s .nodes)) (problemOf s .variables) ds onNodes l m r;
       }
 
-  pub gone-bound : (X : ℕ) (v : Side) (more : VariableSet) (after : Bindings) (waiting : Stack) (onNodes onVariables : Sheet)
-      → Added A made count (w .0) (bindingTo X v number) after (more .0)
+  pub gone-bound : (X : ℕ) (v : Side) (more : VariableSet) (after : Bindings) (waiting : Stack) (onNodes onVariables : Sheet) → A ≤ 32
+      → BoundTo A made count (w .0) X v number after (more .0)
       → GoneOn s A number [] ((X, v) ∷ []) [] (tablesOf waiting made onNodes onVariables) n (w .0) count (tablesOf waiting after onNodes onVariables)
       (record { outcome = Goes; waiting = n; bound = more; count = count + 1 })
-  gone-bound X v more after waiting onNodes onVariables h =
+  unfolding bindingOf sideOf
+  gone-bound X v more after waiting onNodes onVariables few h =
       record {
         outcome = refl;
         stack = refl;
-        made = h .bindings;
-        keeps = h .keeps;
+        made = rw (table-ofTable A (v .images) (h .images)) at (h .added .bindings A few);
+        keeps = h .added .keeps;
         counted = refl;
         raised = λ ds r. rw append-nil r;
       }

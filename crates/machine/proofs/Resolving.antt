@@ -4,15 +4,15 @@ use native.Mathlib.Omega.{arith}
 use mathlib.Core.Path.{_≡_, refl, sym, _∙_, ap}
 use mathlib.Core.Logic.{_≢_}
 use mathlib.Core.Bool.{Bool, true, false, not}
-use mathlib.Core.List.{List, []}
+use mathlib.Core.List.{List, [], _∷_, map}
 use mathlib.Core.Option.{Option, none, some}
-use lib.ListN.{length, getD}
+use lib.ListN.{length, getD, length-map}
 use Rattle.names.specs.declared.NodeId.{NodeId}
-use Rattle.permutation.specs.Swaps.{Swaps, Within}
-use Rattle.permutation.specs.Table.{Table, after, ofSwaps}
+use Rattle.permutation.specs.Swaps.{Swaps, Within, swapsIn}
+use Rattle.permutation.specs.Table.{Table, image, identity, after, ofSwaps}
 use Rattle.permutation.specs.Store.{table, ofTable}
 use Rattle.permutation.specs.declared.Permutation.{Permutation}
-use Rattle.permutation.proofs.Table.{length-after, length-ofSwaps}
+use Rattle.permutation.proofs.Table.{table-extensional, image-map, image-identity, length-identity, length-after, length-ofSwaps, ofSwaps-none}
 use Rattle.permutation.proofs.Store.{length-table, table-after, table-ofSwaps}
 use Rattle.sets.specs.Bits.{member}
 use Rattle.sets.proofs.Bits.{by-member}
@@ -37,9 +37,27 @@ pub within-own : (atoms variables n : ℕ) (node : Node) → Named atoms variabl
 within-own atoms variables n (suspension-form π X) h k = h .1
 
 pub whole-is : (s : List ℕ) (A : ℕ) (P : Table) (n : ℕ) (own r : Permutation) (π : Swaps) → own ≡ ofTable (ofSwaps A π) → π ≡ swapsOf (formNow s n)
-    → r ≡ ofTable (after P (table A own)) → r ≡ ofTable (wholeOf s A P n)
+    → r ≡ ofTable (after P (table A own)) → table A r ≡ wholeOf s A P n
 unfolding wholeOf
-whole-is s A P n own r π e f g = g ∙ rw (e, table-ofSwaps A π, f)
+whole-is s A P n own r π e f g =
+    ap (table A) g ∙ rw (e, table-ofSwaps A π) (table-after A P (ofSwaps A π) (length-ofSwaps A π) ∙ rw f)
+
+after-none : (A : ℕ) (P : Table) → length P ≡ A → after P (ofSwaps A []) ≡ P
+unfolding after
+after-none A P l =
+    rw (ofSwaps-none A)
+    (table-extensional (map (image P) (identity A)) P (length-map (identity A) (image P) ∙ length-identity A ∙ sym l) λ a h.
+    let k : a < length (identity A) = rw length-map at h in image-map (image P) (identity A) a k ∙ ap (image P) (image-identity A a))
+
+no-swaps : (w : List ℕ) → length w ≡ 0 → swapsIn w ≡ []
+no-swaps [] e = refl
+no-swaps (a ∷ w) e = absurd (omega arith)
+
+-- A suspension without swaps.
+pub whole-bare : (s : List ℕ) (A : ℕ) (p : Permutation) (n : ℕ) (w : List ℕ) → A ≤ 32 → length (p .images) ≡ 32 → swapsIn w ≡ swapsOf (formNow s n) → length w ≡ 0
+    → table A p ≡ wholeOf s A (table A p) n
+unfolding wholeOf
+whole-bare s A p n w h l e z = rw (← e, no-swaps w z) (sym (after-none A (table A p) (length-table A p (omega arith))))
 
 pub length-whole : (s : List ℕ) (A : ℕ) (P : Table) (n : ℕ) → length (wholeOf s A P n) ≡ A
 unfolding wholeOf
@@ -55,11 +73,11 @@ not-false false e = sym e
 
 -- ---- what is found of a form
 
-pub valued-suspension : (A : ℕ) (roots images : List ℕ) (bound X : ℕ) (r : Found) → LookedUp A roots images bound X r → Valued A roots images bound (Suspension (record { 0 = X })) r
+pub valued-suspension : (roots images : List ℕ) (bound X : ℕ) (r : Found) → LookedUp roots images bound X r → Valued roots images bound (Suspension (record { 0 = X })) r
 unfolding foundAt
-valued-suspension A roots images bound X r l =
+valued-suspension roots images bound X r l =
     record {
-      value = λ order madeBy k h. l .value order madeBy k h;
+      value = l .value;
       suspends = λ b. tt;
       there = λ n t b. by-member bound X
           (λ m. let e = rw m at (l .content) in rw e (t X m))
@@ -69,11 +87,11 @@ valued-suspension A roots images bound X r l =
 abbrev pub NoSuspension : Form → Type 0
 NoSuspension w = (bs : List Binding) → valueTold bs w ≡ none
 
-pub valued-other : (A : ℕ) (roots images : List ℕ) (bound : ℕ) (w : Form) (v : Value) → NoSuspension w → Valued A roots images bound w (record { bound = false; value = v })
+pub valued-other : (roots images : List ℕ) (bound : ℕ) (w : Form) (v : Value) → NoSuspension w → Valued roots images bound w (record { bound = false; value = v })
 unfolding valueIn
-valued-other A roots images bound w v h =
+valued-other roots images bound w v h =
     record {
-      value = λ order madeBy k i. h (bindingsOf A (tables order roots images madeBy) k);
+      value = λ A s order madeBy k i. h (bindingsOf A (tables order roots images madeBy) k);
       suspends = λ b. absurd (let y : _≡_ {A = ℕ} 0 1 = cc in omega arith);
       there = λ n t b. absurd (let y : _≡_ {A = ℕ} 0 1 = cc in omega arith);
     }
@@ -146,24 +164,24 @@ module _ (s : List ℕ) (A : ℕ) (roots images : List ℕ) (bound k : ℕ) (bef
   finish-none w t e z = finish w t e (λ f order madeBy i. resolved-zero (groundOf s f) (bindingsOf A (tables order roots images madeBy) k) (sideAt A p at) left z)
 
   -- The side is no suspension of a bound variable.
-  pub finish-free : (w : Form) (r : Found) → at .0 < length (problemOf s .nodes) → w ≡ formTold (formNow s (at .0)) → Valued A roots images bound w r → r .bound ≡ false
+  pub finish-free : (w : Form) (r : Found) → A ≤ 32 → at .0 < length (problemOf s .nodes) → w ≡ formTold (formNow s (at .0)) → Valued roots images bound w r → r .bound ≡ false
       → Resolved s A roots images bound k before (record { images = p; node = at; form = w })
-  finish-free w r t e v b =
+  finish-free w r h t e v b =
       finish w t e (λ f order madeBy i.
-      resolved-stop s f (bindingsOf A (tables order roots images madeBy) k) (sideAt A p at) left (rw e at (v .value order madeBy k i) ∙ valueIn-unbound A r b))
+      resolved-stop s f (bindingsOf A (tables order roots images madeBy) k) (sideAt A p at) left (rw e at (v .value A h order madeBy k i) ∙ valueIn-unbound A r b))
 
   -- One more replacement.
-  pub kept-more : (w : Form) (r : Found) (q : Permutation) → A ≡ problemOf s .atoms → A ≤ 32 → w ≡ formTold (formNow s (at .0)) → Valued A roots images bound w r → r .bound ≡ true
+  pub kept-more : (w : Form) (r : Found) (outer q : Permutation) → A ≡ problemOf s .atoms → A ≤ 32 → w ≡ formTold (formNow s (at .0)) → Valued roots images bound w r → r .bound ≡ true
       → left ≢ 0 → length (r .value .images .images) ≡ 32
-      → q ≡ ofTable (after (table A (ofTable (wholeOf s A (table A p) (at .0)))) (table A (r .value .images)))
+      → table A outer ≡ wholeOf s A (table A p) (at .0) → q ≡ ofTable (after (table A outer) (table A (r .value .images)))
       → Kept s A roots images bound k before (sideAt A q (r .value .node)) (left - 1)
-  unfolding sideOf wholeOf
-  kept-more w r q a h e v b n l c f order madeBy i =
+  unfolding sideOf
+  kept-more w r outer q a h e v b n l o c f order madeBy i =
       let bs = bindingsOf A (tables order roots images madeBy) k in
       let W = wholeOf s A (table A p) (at .0) in
       let U = table A (r .value .images) in
-      let u : valueTold bs (formTold (formNow s (at .0))) ≡ some (sideOf A (r .value)) = rw e at (v .value order madeBy k i) ∙ valueIn-bound A r b in
+      let u : valueTold bs (formTold (formNow s (at .0))) ≡ some (sideOf A (r .value)) = rw e at (v .value A h order madeBy k i) ∙ valueIn-bound A r b in
       let m : table A q ≡ after W U =
-      ap (table A) c ∙ table-after A (table A (ofTable W)) U (length-table A (r .value .images) (omega arith)) ∙ ap (λ (T : Table). after T U) (table-after A (table A p) (ofSwaps A (swapsOf (formNow s (at .0)))) (length-ofSwaps A (swapsOf (formNow s (at .0))))) in
+      ap (table A) c ∙ table-after A (table A outer) U (length-table A (r .value .images) (omega arith)) ∙ ap (λ (T : Table). after T U) o in
       kept f order madeBy i ∙ resolved-on s f bs (sideAt A p at) left (sideOf A (r .value)) n u
       ∙ rw (m, ← a) refl

@@ -97,9 +97,9 @@ module _ (s places table : List ℕ) (A w L : ℕ) (t : Tables) (n steps bound c
       rw q
       (record { verdict = v; taken = omega (arith, k, h .within); made = rw c; keeps = rw (b, c) (h .keeps); raised = h .raised })
 
-  module _ (e : Pending) (some : n ≢ 0) (topped : Topped A (t .stack) (n - 1) e) where
+  module _ (e : Pending) (some : n ≢ 0) (topped : Topped (t .stack) (n - 1) e) where
     stack-top : stackOf A (t .stack) n ≡ equationOf A e ∷ stackOf A (t .stack) (n - 1)
-    stack-top = let q : n ≡ n - 1 + 1 = omega arith in ap (stackOf A (t .stack)) q ∙ topped .stack
+    stack-top = let q : n ≡ n - 1 + 1 = omega arith in ap (stackOf A (t .stack)) q ∙ topped .stack A (rw (readied .number) (readied .readable .few-atoms))
 
     top-reached : FromStart s w (equationOf A e ∷ stackOf A (t .stack) (n - 1)) (bindingsOf A (t .bindings) count) (h .demanded)
     top-reached = rw stack-top at (h .reached)
@@ -191,12 +191,12 @@ module _ (s places table : List ℕ) (A w L : ℕ) (t : Tables) (n steps bound c
 -- ---- where the loop begins
 
 pub began : (s places table equationPlaces : List ℕ) (A nodes variables equations : ℕ) (before waiting : Stack) (v w sets others f g : List ℕ) → Ready s places equationPlaces table A nodes variables equations
-    → sets ≡ emptied nodes v → others ≡ emptied variables w → Started A (problemOf s .equations) before equations waiting
+    → sets ≡ emptied nodes v → others ≡ emptied variables w → Started (problemOf s .equations) before equations waiting
     → Began s places table A waiting equations (sheet sets f) (sheet others g)
 began s places table equationPlaces A nodes variables equations before waiting v w sets others f g h a b c =
     record {
       readied = h .readied;
       filled = h .filled;
-      stack = c .stack ∙ ap (λ (k : ℕ). equationsFrom k 0 (problemOf s .equations)) (h .readied .number);
+      stack = c .stack A (rw (h .readied .number) (h .readied .readable .few-atoms)) ∙ ap (λ (k : ℕ). equationsFrom k 0 (problemOf s .equations)) (h .readied .number);
       raised = rw (a, b, ← (h .numbered), ← (h .various)) (raised-none nodes variables v w f g);
     }

@@ -1,5 +1,5 @@
 -- Sides as the code has them, against the definition's (run, specs/Meaning.antt). Definitions alone; their laws are in proofs/.
-use Prim.Native.Nat.{ℕ, _<_}
+use Prim.Native.Nat.{ℕ, _≤_, _<_}
 use mathlib.Core.Path.{_≡_}
 use mathlib.Core.Bool.{Bool, true}
 use mathlib.Core.List.{List}
@@ -62,9 +62,9 @@ Suspends (Suspension x) = Prim.Unit {0}
 abbrev pub RootsThere : ℕ → List ℕ → ℕ → Type 0
 RootsThere n roots bound = (X : ℕ) → member bound X ≡ true → getD roots X 0 < n
 
--- What is found of a form: the definition's value, under any order that the set of bound variables belongs to.
-pub record Valued (A : ℕ) (roots valueImages : List ℕ) (bound : ℕ) (form : Form) (r : Found) : Type 0 where
-  pub value : (order madeBy : List ℕ) (k : ℕ) → Keeps order k bound → valueTold (bindingsOf A (tables order roots valueImages madeBy) k) form ≡ valueIn A r
+-- What is found of a form: the definition's value, with any number of atoms in use and under any order that the set of bound variables belongs to.
+pub record Valued (roots valueImages : List ℕ) (bound : ℕ) (form : Form) (r : Found) : Type 0 where
+  pub value : (A : ℕ) → A ≤ 32 → (order madeBy : List ℕ) (k : ℕ) → Keeps order k bound → valueTold (bindingsOf A (tables order roots valueImages madeBy) k) form ≡ valueIn A r
   pub suspends : r .bound ≡ true → Suspends form
   pub there : (n : ℕ) → RootsThere n roots bound → r .bound ≡ true → r .value .node .0 < n
 

@@ -5,7 +5,7 @@ use mathlib.Core.Bool.{false}
 use mathlib.Core.List.{List, [], _∷_, _++_, map}
 use lib.ListN.{length}
 use Rattle.permutation.specs.Table.{Table, swappedAfter, disagreement}
-use Rattle.permutation.specs.Store.{table}
+use Rattle.permutation.specs.Store.{table, ofTable}
 use Rattle.sets.specs.Bits.{member}
 use Rattle.problem.specs.Held.{problemOf}
 use Rattle.problem.specs.Look.{formNow, Suspended}
@@ -15,7 +15,8 @@ use Rattle.room.specs.Stacks.{Reaches}
 use Rattle.stack.specs.Stack.{Stack, stackOf, equationOf}
 use Rattle.stack.specs.declared.Pending.{Pending}
 use Rattle.occurs.specs.Reached.{FilledBelow}
-use Rattle.bindings.specs.Bindings.{Bindings, bindingsOf, Keeps}
+use Rattle.bindings.specs.Bindings.{Bindings, bindingsOf, Keeps, Added}
+use Rattle.bindings.specs.declared.Value.{Value}
 use Rattle.demands.specs.Demands.{Sheet, Raised, SideRaised}
 use Rattle.machine.specs.Side.{Readied, groundOf}
 use Rattle.machine.specs.declared.rule.Act.{Act}
@@ -39,8 +40,14 @@ DisagreementRaised P Q X k before after =
     (nodes variables : ℕ) (ds : List Demand) (onNodes : Sheet) → X < variables → variables ≤ 64 → Raised nodes variables ds onNodes before
     → Raised nodes variables (ds ++ demands k (map (λ a. (a, of-variable X)) (disagreement P Q))) onNodes after
 
-abbrev pub bindingTo : ℕ → Side → ℕ → Binding
-bindingTo X v n = record { variable = X; value = v; equation = n }
+-- The definition's value as the code holds it.
+abbrev pub heldValue : Side → Value
+heldValue v = record { images = ofTable (v .images); node = record { 0 = v .node } }
+
+-- One more binding, of X to a value that has the images of A atoms.
+pub record BoundTo (A : ℕ) (before : Bindings) (count bound X : ℕ) (v : Side) (number : ℕ) (after : Bindings) (r : ℕ) : Type 0 where
+  pub added : Added before count bound X (heldValue v) number after r
+  pub images : length (v .images) ≡ A
 
 -- The tables that a step changes.
 pub record Tables : Type 0 where

@@ -2,7 +2,7 @@
 ghost use mathlib.Core.Path.{_≡_};
 ghost use mathlib.Core.Bool.{false};
 ghost use mathlib.Core.List.{[], _∷_};
-ghost use Prim.Native.Nat.{_+_, _≤_, _<_};
+ghost use Prim.Native.Nat.{ℕ, _+_, _≤_, _<_};
 ghost use lib.ListN.{length};
 ghost use Rattle.permutation.specs.Store.{table};
 ghost use Rattle.permutation.specs.Table.{inverted, swappedAfter};
@@ -15,7 +15,7 @@ ghost use Rattle.bindings.specs.Bindings as made;
 ghost use Rattle.demands.specs.Demands.{sheet};
 ghost use Rattle.machine.specs.Side.{Readied, sideAt, wholeOf};
 ghost use Rattle.machine.specs.Rule.{stepOf};
-ghost use Rattle.machine.specs.Step.{Grown, RenamedTo, DisagreementRaised, bindingTo, tablesOf, Fit, Performed};
+ghost use Rattle.machine.specs.Step.{Grown, RenamedTo, DisagreementRaised, BoundTo, tablesOf, Fit, Performed};
 use crate::rule::Act;
 use crate::side::Side;
 use bindings::Value;
@@ -50,15 +50,14 @@ fn one_part(
     left_images: &mut [u8; 18432],
     right_images: &mut [u8; 18432],
     n: usize,
-    atoms: usize,
     number: u8,
     p: Permutation,
     m: NodeId,
     q: Permutation,
     k: NodeId,
 )
-    requires { ⌜ (n < 576) × (atoms ≤ 32) ⌝ }
-    ensures { λ r. ⌜ Grown atoms number ((sideAt atoms p m, sideAt atoms q k) ∷ []) (pending.tables (now (numbers .entry)) (now (lefts .entry)) (now (rights .entry)) (now («left_images» .entry)) (now («right_images» .entry))) n (pending.tables (now (numbers .exit)) (now (lefts .exit)) (now (rights .exit)) (now («left_images» .exit)) (now («right_images» .exit))) (n + 1) ⌝ }
+    requires { ⌜ n < 576 ⌝ }
+    ensures { λ r. ⌜ ((A : ℕ) → A ≤ 32 → Grown A number ((sideAt A p m, sideAt A q k) ∷ []) (pending.tables (now (numbers .entry)) (now (lefts .entry)) (now (rights .entry)) (now («left_images» .entry)) (now («right_images» .entry))) n (pending.tables (now (numbers .exit)) (now (lefts .exit)) (now (rights .exit)) (now («left_images» .exit)) (now («right_images» .exit))) (n + 1)) ⌝ }
 {
     let e = Pending {
         number: number,
@@ -67,16 +66,7 @@ fn one_part(
         right: q,
         right_node: k,
     };
-    stack::push(
-        numbers,
-        lefts,
-        rights,
-        left_images,
-        right_images,
-        n,
-        atoms,
-        e,
-    );
+    stack::push(numbers, lefts, rights, left_images, right_images, n, e);
 }
 
 // "Pairs: the left parts on top, then the right parts."
@@ -87,7 +77,6 @@ fn two_parts(
     left_images: &mut [u8; 18432],
     right_images: &mut [u8; 18432],
     n: usize,
-    atoms: usize,
     number: u8,
     p: Permutation,
     l: NodeId,
@@ -96,8 +85,8 @@ fn two_parts(
     k: NodeId,
     o: NodeId,
 )
-    requires { ⌜ (n + 1 < 576) × (atoms ≤ 32) ⌝ }
-    ensures { λ r. ⌜ Grown atoms number ((sideAt atoms p l, sideAt atoms q k) ∷ (sideAt atoms p m, sideAt atoms q o) ∷ []) (pending.tables (now (numbers .entry)) (now (lefts .entry)) (now (rights .entry)) (now («left_images» .entry)) (now («right_images» .entry))) n (pending.tables (now (numbers .exit)) (now (lefts .exit)) (now (rights .exit)) (now («left_images» .exit)) (now («right_images» .exit))) (n + 2) ⌝ }
+    requires { ⌜ n + 1 < 576 ⌝ }
+    ensures { λ r. ⌜ ((A : ℕ) → A ≤ 32 → Grown A number ((sideAt A p l, sideAt A q k) ∷ (sideAt A p m, sideAt A q o) ∷ []) (pending.tables (now (numbers .entry)) (now (lefts .entry)) (now (rights .entry)) (now («left_images» .entry)) (now («right_images» .entry))) n (pending.tables (now (numbers .exit)) (now (lefts .exit)) (now (rights .exit)) (now («left_images» .exit)) (now («right_images» .exit))) (n + 2)) ⌝ }
 {
     one_part(
         numbers,
@@ -106,7 +95,6 @@ fn two_parts(
         left_images,
         right_images,
         n,
-        atoms,
         number,
         p,
         m,
@@ -120,7 +108,6 @@ fn two_parts(
         left_images,
         right_images,
         n + 1,
-        atoms,
         number,
         p,
         l,
@@ -159,7 +146,6 @@ fn renamed(
         left_images,
         right_images,
         n,
-        atoms,
         number,
         p,
         m,
@@ -212,7 +198,7 @@ fn bind(
     k: NodeId,
 ) -> VariableSet
     requires { ⌜ Readied (now s) (now places) atoms × ((m .0 < length (problemOf (now s) .nodes)) × Suspended (formNow (now s) (m .0))) × (made.Keeps (now order) count (bound .0) × (member (bound .0) (x .0) ≡ false) × (x .0 < 64)) ⌝ }
-    ensures { λ r. ⌜ made.Added atoms (made.tables (now (order .entry)) (now (roots .entry)) (now («value_images» .entry)) (now («made_by» .entry))) count (bound .0) (bindingTo (x .0) (under (inverted (wholeOf (now (s .entry)) atoms (table atoms p) (m .0))) (sideAt atoms q k)) number) (made.tables (now (order .exit)) (now (roots .exit)) (now («value_images» .exit)) (now («made_by» .exit))) (r .0) ⌝ }
+    ensures { λ r. ⌜ BoundTo atoms (made.tables (now (order .entry)) (now (roots .entry)) (now («value_images» .entry)) (now («made_by» .entry))) count (bound .0) (x .0) (under (inverted (wholeOf (now (s .entry)) atoms (table atoms p) (m .0))) (sideAt atoms q k)) number (made.tables (now (order .exit)) (now (roots .exit)) (now («value_images» .exit)) (now («made_by» .exit))) (r .0) ⌝ }
 {
     let outer = crate::side::whole(s, places, atoms, p, m);
     let back = permutation::invert(outer, atoms);
@@ -231,7 +217,6 @@ fn bind(
         x,
         value,
         number,
-        atoms,
     )
 }
 
@@ -301,7 +286,6 @@ pub fn perform(
                 left_images,
                 right_images,
                 n,
-                atoms,
                 number,
                 p,
                 m,
@@ -323,7 +307,6 @@ pub fn perform(
                 left_images,
                 right_images,
                 n,
-                atoms,
                 number,
                 p,
                 i,

@@ -1,8 +1,8 @@
 // Sides of equations: a permutation and a node, with the node's form beside it, and what a side is once bound variables are replaced by their values.
 ghost use mathlib.Core.Path.{_≡_};
-ghost use Prim.Native.Nat.{_≤_, _<_};
+ghost use Prim.Native.Nat.{_<_};
 ghost use lib.ListN.{length};
-ghost use Rattle.permutation.specs.Store.{table, ofTable};
+ghost use Rattle.permutation.specs.Store.{table};
 ghost use Rattle.permutation.specs.Table.{after, ofSwaps};
 ghost use Rattle.problem.specs.Held.{problemOf};
 ghost use Rattle.problem.specs.Look.{formNow, Suspended, swapsOf};
@@ -21,7 +21,7 @@ pub struct Side {
     pub form: Form,
 }
 
-// A suspension under a side's images: first its own swaps, then the images.
+// A suspension under a side's images: first its own swaps, then the images. Most have no swaps, and nothing is composed.
 pub fn whole(
     s: &[u8],
     places: &[u16; 512],
@@ -30,22 +30,19 @@ pub fn whole(
     node: NodeId,
 ) -> Permutation
     requires { ⌜ Readied (now s) (now places) atoms × (node .0 < length (problemOf (now s) .nodes)) × Suspended (formNow (now s) (node .0)) ⌝ }
-    ensures { λ r. ⌜ r ≡ ofTable (wholeOf (now (s .entry)) atoms (table atoms images) (node .0)) ⌝ }
+    ensures { λ r. ⌜ table atoms r ≡ wholeOf (now (s .entry)) atoms (table atoms images) (node .0) ⌝ }
 {
-    let own = permutation::of_swaps(problem::look::swaps_of(s, places, node), atoms);
+    let swaps = problem::look::swaps_of(s, places, node);
+    if swaps.len() == 0 {
+        return images;
+    }
+    let own = permutation::of_swaps(swaps, atoms);
     permutation::compose(images, own, atoms)
 }
 
 // What a form is replaced by: the value of a bound variable.
-fn value_of(
-    roots: &[u16; 64],
-    value_images: &[u8; 2048],
-    bound: VariableSet,
-    form: Form,
-    atoms: usize,
-) -> Found
-    requires { ⌜ atoms ≤ 32 ⌝ }
-    ensures { λ r. ⌜ Valued atoms (now (roots .entry)) (now («value_images» .entry)) (bound .0) form r ⌝ }
+fn value_of(roots: &[u16; 64], value_images: &[u8; 2048], bound: VariableSet, form: Form) -> Found
+    ensures { λ r. ⌜ Valued (now (roots .entry)) (now («value_images» .entry)) (bound .0) form r ⌝ }
 {
     let Form::Suspension(x) = form else {
         let images = permutation::identity(0);
@@ -58,7 +55,7 @@ fn value_of(
             value: value,
         };
     };
-    bindings::look_up(roots, value_images, bound, x, atoms)
+    bindings::look_up(roots, value_images, bound, x)
 }
 
 // "A side that is a suspension of a bound variable is first replaced by its value under the permutations, as often as needed": at most once for each
@@ -89,7 +86,7 @@ pub fn resolve(
                 form: form,
             };
         }
-        let found = value_of(roots, value_images, bound, form, atoms);
+        let found = value_of(roots, value_images, bound, form);
         if !found.bound {
             return Side {
                 images: p,

@@ -60,7 +60,7 @@ fn go(
             break Verdict::Accepted;
         }
         n -= 1;
-        let e = stack::top(numbers, lefts, rights, left_images, right_images, n, atoms);
+        let e = stack::top(numbers, lefts, rights, left_images, right_images, n);
         if limit <= steps {
             break Verdict::Limit(e.number);
         }
@@ -154,7 +154,6 @@ pub fn run(
         left_images,
         right_images,
         equations,
-        atoms,
     );
     go(
         s,

@@ -1,5 +1,5 @@
--- The laws of rows: what was stored in a row is read there, every other row stays as it was, and the table keeps its length. And a turn of the
--- loop that reads a row; the loop that writes one is lib.Seq's `paste`.
+-- The laws of rows: what was stored in a row is read there, every other row stays as it was, the table keeps its length, and a row of some width has
+-- the rows of less in front. And a turn of the loop that reads a row; the loop that writes one is lib.Seq's `paste`.
 use Prim.Native.Nat.{ℕ, zero, suc, _+_, _-_, _*_, _≤_}
 use native.Mathlib.Omega.{arith}
 use native.Mathlib.Decide.{decLe}
@@ -7,11 +7,11 @@ use mathlib.Core.Path.{_≡_, refl, sym, _∙_, ap}
 use mathlib.Core.Logic.{_≢_}
 use mathlib.Core.List.{List, [], _∷_, _++_, append-assoc}
 use lib.ListN.{length, getD, take, drop, length-append, length-drop, take-append-drop}
-use lib.Seq.{take-suc, take-at, drop-at, length-take-le, getD-drop, take-append-le, drop-append-le, drop-append-add, drop-drop, paste}
+use lib.Seq.{take-suc, take-at, drop-at, length-take-le, getD-drop, take-append-le, drop-append-le, drop-append-add, drop-drop, take-take, paste}
 use Rattle.permutation.specs.Table.{Table, tabulate}
-use Rattle.permutation.specs.Store.{table}
+use Rattle.permutation.specs.Store.{table, ofTable}
 use Rattle.permutation.specs.declared.Permutation.{Permutation}
-use Rattle.permutation.proofs.Store.{tabulate-suc}
+use Rattle.permutation.proofs.Store.{tabulate-suc, length-table, table-ofTable}
 use Rattle.rows.specs.Rows.{row, withRow}
 
 pub length-row : (A i : ℕ) (t : List ℕ) → i * 32 + A ≤ length t → length (row A i t) ≡ A
@@ -76,3 +76,23 @@ module _ (i : ℕ) (P : Table) (t : List ℕ) where
 pub pasted : (i n : ℕ) (p : Permutation) (t : List ℕ) → n ≤ length (p .images) → paste t (i * 32) (p .images) n ≡ withRow i (table n p) t
 unfolding withRow table
 pasted i n p t h = rw (length-take-le n (p .images) h)
+
+-- ---- a row of width B, for the first A atoms
+
+module _ (A B : ℕ) (h : A ≤ B) where
+  pub row-narrow : (i : ℕ) (t : List ℕ) → take A (row B i t) ≡ row A i t
+  unfolding row
+  row-narrow i t = take-take A B (drop (i * 32) t) h
+
+  pub table-narrow : (p : Permutation) → take A (table B p) ≡ table A p
+  unfolding table
+  table-narrow p = take-take A B (p .images) h
+
+  -- What is loaded of width B is, for A atoms, their row.
+  pub table-row : (i : ℕ) (t : List ℕ) → i * 32 + B ≤ length t → table A (ofTable (row B i t)) ≡ row A i t
+  table-row i t l = sym (table-narrow (ofTable (row B i t))) ∙ ap (take A) (table-ofTable B (row B i t) (length-row B i t l)) ∙ row-narrow i t
+
+  -- What was stored of width B is, for A atoms, their table.
+  pub row-table : (i : ℕ) (p : Permutation) (t : List ℕ) → B ≤ length (p .images) → i * 32 ≤ length t → row A i (withRow i (table B p) t) ≡ table A p
+  row-table i p t k l =
+      sym (row-narrow i (withRow i (table B p) t)) ∙ ap (take A) (row-withRow i (table B p) t B (length-table B p k) l) ∙ table-narrow p

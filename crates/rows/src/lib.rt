@@ -1,6 +1,6 @@
 // What stands at a place of a lent table: a permutation in a row of 32 bytes, a byte, a number of two bytes. The run's pending equations and its
-// bindings have such tables. Of a row only the bytes of the n atoms in use are read and written, so that the cost follows n and a table may hold
-// anything where no row is in use. This crate and `permutation` are the only ones that know how a permutation is stored.
+// bindings have such tables. Of a row the first n bytes are read and written, for the caller's n: with the constant 32 a row is two moves, where n
+// that is known at run time alone is a loop. This crate and `permutation` are the only ones that know how a permutation is stored.
 //
 // A caller lends its arrays to these functions as slices: so it learns their lengths, which reading or writing an array's element does not tell.
 

@@ -1,5 +1,5 @@
 -- The pending equations in tables: what the definition's stack (run, specs/Run.antt) is read off them. Definitions alone; their laws are in proofs/.
-use Prim.Native.Nat.{ℕ, zero, suc, _+_, _<_}
+use Prim.Native.Nat.{ℕ, zero, suc, _+_, _≤_, _<_}
 use mathlib.Core.Path.{_≡_}
 use mathlib.Core.List.{List, [], _∷_}
 use lib.ListN.{length, getD, set}
@@ -35,7 +35,7 @@ unfoldable pub stackOf : ℕ → Stack → ℕ → List Equation
 stackOf A t zero = []
 stackOf A t (suc n) = equationAt A t n ∷ stackOf A t n
 
--- The definition's equation of one that the code holds.
+-- The definition's equation of one that the code holds, with A atoms in use. With 32 of them it has whole rows for images.
 unfoldable pub equationOf : ℕ → Pending → Equation
 equationOf A e =
     record { number = e .number; left = record { images = table A (e .left); node = e .«left_node» .0 }; right = record { images = table A (e .right); node = e .«right_node» .0 } }
@@ -51,26 +51,26 @@ withEquation n e t =
       rightImages = withRow n (e .right .images) (t .rightImages);
     }
 
--- What the code makes of place i.
-unfoldable pub pendingAt : ℕ → Stack → ℕ → Pending
-pendingAt A t i =
+-- What the code makes of place i: rows are read whole, however many atoms are in use.
+unfoldable pub pendingAt : Stack → ℕ → Pending
+pendingAt t i =
     record {
       number = getD (t .numbers) i 0;
-      left = ofTable (row A i (t .leftImages));
+      left = ofTable (row 32 i (t .leftImages));
       «left_node» = record { 0 = getD (t .lefts) i 0 };
-      right = ofTable (row A i (t .rightImages));
+      right = ofTable (row 32 i (t .rightImages));
       «right_node» = record { 0 = getD (t .rights) i 0 };
     }
 
--- What pushing does: the tables' whole content, and what that is as a stack.
-pub record Pushed (A : ℕ) (before : Stack) (n : ℕ) (e : Pending) (after : Stack) : Type 0 where
-  pub content : after ≡ withEquation n (equationOf A e) before
-  pub stack : stackOf A after (n + 1) ≡ equationOf A e ∷ stackOf A before n
+-- What pushing does: the tables' whole content, and what that is as a stack, for any number of atoms in use.
+pub record Pushed (before : Stack) (n : ℕ) (e : Pending) (after : Stack) : Type 0 where
+  pub content : after ≡ withEquation n (equationOf 32 e) before
+  pub stack : (A : ℕ) → A ≤ 32 → stackOf A after (n + 1) ≡ equationOf A e ∷ stackOf A before n
 
 -- What reading the top gives.
-pub record Topped (A : ℕ) (t : Stack) (n : ℕ) (r : Pending) : Type 0 where
-  pub content : r ≡ pendingAt A t n
-  pub stack : stackOf A t (n + 1) ≡ equationOf A r ∷ stackOf A t n
+pub record Topped (t : Stack) (n : ℕ) (r : Pending) : Type 0 where
+  pub content : r ≡ pendingAt t n
+  pub stack : (A : ℕ) → A ≤ 32 → stackOf A t (n + 1) ≡ equationOf A r ∷ stackOf A t n
 
 -- "the file's first on top": the tables with equations written from the last to the first.
 unfoldable pub filled : List Equation → Stack → Stack
@@ -82,7 +82,7 @@ pub record Standing (s places : List ℕ) (count : ℕ) : Type 0 where
   pub all : count ≡ length (problemOf s .equations)
   pub stands : (k : ℕ) → k < count → EquationStands s places k
 
--- What starting leaves: the definition's stack at the start of a run, of n equations.
-pub record Started (A : ℕ) (equations : List Equal) (before : Stack) (n : ℕ) (after : Stack) : Type 0 where
-  pub content : after ≡ filled (equationsFrom A 0 equations) before
-  pub stack : stackOf A after n ≡ equationsFrom A 0 equations
+-- What starting leaves: the definition's stack at the start of a run, of n equations, for any number of atoms in use.
+pub record Started (equations : List Equal) (before : Stack) (n : ℕ) (after : Stack) : Type 0 where
+  pub content : after ≡ filled (equationsFrom 32 0 equations) before
+  pub stack : (A : ℕ) → A ≤ 32 → stackOf A after n ≡ equationsFrom A 0 equations

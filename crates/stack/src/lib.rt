@@ -1,7 +1,9 @@
 // The equations that wait, in tables that the caller lends: place i of each table is part of one equation, and the top is the last in use. Tables may
 // hold anything where nothing waits, so that none is ever cleared. Room for 576 is enough (document 01, "Numbers given back").
+//
+// Images are read and written as whole rows, whatever the number of atoms in use: so no function here takes that number, and each contract is for all.
 
-ghost use Prim.Native.Nat.{_<_, _≤_};
+ghost use Prim.Native.Nat.{_<_};
 ghost use Rattle.stack.specs.Stack.{tables, Pushed, Topped, Standing, Started};
 ghost use Rattle.problem.specs.Held.{problemOf};
 use names::NodeId;
@@ -24,19 +26,18 @@ pub fn push(
     left_images: &mut [u8; 18432],
     right_images: &mut [u8; 18432],
     n: usize,
-    atoms: usize,
     e: Pending,
 )
-    requires { ⌜ (n < 576) × (atoms ≤ 32) ⌝ }
-    ensures { λ r. ⌜ Pushed atoms (tables (now (numbers .entry)) (now (lefts .entry)) (now (rights .entry)) (now («left_images» .entry)) (now («right_images» .entry))) n e (tables (now (numbers .exit)) (now (lefts .exit)) (now (rights .exit)) (now («left_images» .exit)) (now («right_images» .exit))) ⌝ }
+    requires { ⌜ n < 576 ⌝ }
+    ensures { λ r. ⌜ Pushed (tables (now (numbers .entry)) (now (lefts .entry)) (now (rights .entry)) (now («left_images» .entry)) (now («right_images» .entry))) n e (tables (now (numbers .exit)) (now (lefts .exit)) (now (rights .exit)) (now («left_images» .exit)) (now («right_images» .exit))) ⌝ }
 {
     let left = e.left;
     let right = e.right;
     rows::set_byte(numbers, n, e.number);
     rows::set_number(lefts, n, e.left_node.0);
     rows::set_number(rights, n, e.right_node.0);
-    rows::store(left_images, n, atoms, left);
-    rows::store(right_images, n, atoms, right);
+    rows::store(left_images, n, 32, left);
+    rows::store(right_images, n, 32, right);
 }
 
 // The equation above n others.
@@ -47,13 +48,12 @@ pub fn top(
     left_images: &[u8; 18432],
     right_images: &[u8; 18432],
     n: usize,
-    atoms: usize,
 ) -> Pending
-    requires { ⌜ (n < 576) × (atoms ≤ 32) ⌝ }
-    ensures { λ r. ⌜ Topped atoms (tables (now (numbers .entry)) (now (lefts .entry)) (now (rights .entry)) (now («left_images» .entry)) (now («right_images» .entry))) n r ⌝ }
+    requires { ⌜ n < 576 ⌝ }
+    ensures { λ r. ⌜ Topped (tables (now (numbers .entry)) (now (lefts .entry)) (now (rights .entry)) (now («left_images» .entry)) (now («right_images» .entry))) n r ⌝ }
 {
-    let left = rows::load(left_images, n, atoms);
-    let right = rows::load(right_images, n, atoms);
+    let left = rows::load(left_images, n, 32);
+    let right = rows::load(right_images, n, 32);
     let left_node = NodeId(rows::number(lefts, n));
     let right_node = NodeId(rows::number(rights, n));
     Pending {
@@ -75,12 +75,11 @@ pub fn start(
     left_images: &mut [u8; 18432],
     right_images: &mut [u8; 18432],
     count: usize,
-    atoms: usize,
 )
-    requires { ⌜ Standing (now s) (now «equation_places») count × (atoms ≤ 32) ⌝ }
-    ensures { λ r. ⌜ Started atoms (problemOf (now (s .entry)) .equations) (tables (now (numbers .entry)) (now (lefts .entry)) (now (rights .entry)) (now («left_images» .entry)) (now («right_images» .entry))) count (tables (now (numbers .exit)) (now (lefts .exit)) (now (rights .exit)) (now («left_images» .exit)) (now («right_images» .exit))) ⌝ }
+    requires { ⌜ Standing (now s) (now «equation_places») count ⌝ }
+    ensures { λ r. ⌜ Started (problemOf (now (s .entry)) .equations) (tables (now (numbers .entry)) (now (lefts .entry)) (now (rights .entry)) (now («left_images» .entry)) (now («right_images» .entry))) count (tables (now (numbers .exit)) (now (lefts .exit)) (now (rights .exit)) (now («left_images» .exit)) (now («right_images» .exit))) ⌝ }
 {
-    let p = permutation::identity(atoms);
+    let p = permutation::identity(32);
     let mut n: usize = 0;
     while n < count {
         let k = count - n - 1;
@@ -101,7 +100,6 @@ pub fn start(
             left_images,
             right_images,
             n,
-            atoms,
             pending,
         );
         n += 1;

@@ -1,9 +1,8 @@
 -- `add` meets its contract: each table is written at its place, and that is one more of the definition's bindings.
-use Prim.Native.Nat.{_<_, _≤_}
+use Prim.Native.Nat.{_<_}
 use native.Mathlib.Omega.{arith}
 use lib.ListN.{length}
 use mathlib.Core.Path.{_≡_}
-use Rattle.permutation.proofs.Store.{length-table}
 use Rattle.bindings.specs.Bindings.{tables, sideOf, bindingOf, withBinding}
 use Rattle.bindings.proofs.Bindings.{keeps-room, added}
 use borrow.Author.Needs.{needs}
@@ -40,10 +39,8 @@ returns c =
     let a = c .before .before .before .before .before .before .before .before .before .before .before .args in
     let p = c .before .before .before .before .before .before .before .before .before .before .before .pre in
     let t = tables (a .order .now) (a .roots .now) (a .value-images .now) (a .made-by .now) in
-    let b = bindingOf (a .atoms) (a .x .0) (a .value) (a .number) in
     let x : a .x .0 < 64 = p .2 in
     let k : a .k < 64 = more (c .before .before .before .before .before .before .before .before .before .before .before) in
-    let s : a .atoms ≤ 32 = p .3 in
     let i : length (a .value .images .images) ≡ 32 = image-length (c .before .before .before .before .before .before .before .before .before .before .before) in
     let o : length (a .order .now) ≡ 64 = c .before .before .before .before .before .before .before .before .set-byte-arg .given .0 .1 in
     let q : length (a .roots .now) ≡ 64 = c .before .before .before .before .before .before .set-number-arg .given .0 .1 in
@@ -53,7 +50,7 @@ returns c =
     let e = c .before .before .before .before .before .set-number .ensures in
     let f = c .before .before .before .set-byte2 .ensures in
     let g = c .before .store .ensures in
-    added (a .atoms) s (a .k) b t (record { roots = omega arith; valueImages = omega arith; madeBy = omega arith }) (length-table (a .atoms) (a .value .images) (omega arith))
+    added (a .k) (a .x .0) (a .value) (a .number) t (record { roots = omega arith; valueImages = omega arith; madeBy = omega arith }) i
     (a .bound .0) (p .0) (p .1) (omega arith) x _ _ (rw (d, e, f, g)) (c .with .ensures)
 
 pub add-spec : {M : Type 1} → statement M

@@ -1,5 +1,5 @@
 -- `look_up` meets its contract, for a bound variable and for another.
-use Prim.Native.Nat.{_^_, _<_, _≤_}
+use Prim.Native.Nat.{_^_, _<_}
 use native.Mathlib.Omega.{arith}
 use lib.ListN.{length}
 use mathlib.Core.Path.{_≡_, sym, _∙_}
@@ -28,7 +28,7 @@ cast-i : tie.Need-cast-i
 cast-i c = search needs
 
 load-requires : tie.Need-load-requires
-load-requires c κs = (c .before .before .before .before .pre, omega (arith, few (c .before .before), c .load-arg .given .0))
+load-requires c κs = (omega arith, omega (arith, few (c .before .before), c .load-arg .given .0))
 
 number-requires : tie.Need-number-requires
 number-requires c κs = omega (arith, few (c .before .before .before .before), c .number-arg .given .0)
@@ -39,9 +39,8 @@ returns c =
     let l : length (a .value-images .now) ≡ 2048 = c .before .before .before .load-arg .given .0 in
     let d = c .before .before .load .ensures in
     let e = c .number .ensures in
-    let s : a .atoms ≤ 32 = c .before .before .before .before .before .before .before .pre in
     let x : a .x .0 < 64 = few (c .before .before .before .before .before) in
-    looked-up-bound (a .atoms) (a .roots .now) (a .value-images .now) (a .bound .0) (a .x .0) _ (is-bound (c .before .before .before .before .before)) (omega arith) (rw (d, e))
+    looked-up-bound (a .roots .now) (a .value-images .now) (a .bound .0) (a .x .0) _ (is-bound (c .before .before .before .before .before)) (omega arith) (rw (d, e))
 
 identity-requires : tie.Need-identity-requires
 identity-requires c κs = search needs
@@ -50,7 +49,7 @@ returns-2 : tie.Need-returns-2
 returns-2 c =
     let a = c .before .before .before .args in
     let d = c .identity .ensures in
-    looked-up-unbound (a .atoms) (a .roots .now) (a .value-images .now) (a .bound .0) (a .x .0) _ (sym (c .before .before .has .ensures) ∙ c .before .if1 .left) (rw d)
+    looked-up-unbound (a .roots .now) (a .value-images .now) (a .bound .0) (a .x .0) _ (sym (c .before .before .has .ensures) ∙ c .before .if1 .left) (rw d)
 
 pub look-up-spec : {M : Type 1} → statement M
 look-up-spec =

@@ -1,5 +1,5 @@
 -- `made_at` meets its contract: what is read at the variable of place i is the definition's binding.
-use Prim.Native.Nat.{_<_, _≤_}
+use Prim.Native.Nat.{_<_}
 use native.Mathlib.Omega.{arith}
 use lib.ListN.{length, getD}
 use mathlib.Core.Path.{_≡_}
@@ -29,13 +29,12 @@ unfolding madeOf
 returns c =
     let a = c .before .before .before .before .before .before .before .before .args in
     let x : getD (a .order .now) (a .i) 0 < 64 = c .before .before .before .before .before .before .before .before .pre .1 in
-    let s : a .atoms ≤ 32 = c .before .before .before .before .before .before .before .before .pre .2 in
     let l : length (a .value-images .now) ≡ 2048 = c .before .before .before .before .before .load-arg .given .0 in
     let d = c .before .before .before .before .before .before .byte .ensures in
     let e = c .before .before .before .before .load .ensures in
     let f = c .before .before .number .ensures in
     let g = c .byte2 .ensures in
-    made-at (a .atoms) (tables (a .order .now) (a .roots .now) (a .value-images .now) (a .made-by .now)) (a .i) _ (omega arith) (rw (g, f, e, d))
+    made-at (tables (a .order .now) (a .roots .now) (a .value-images .now) (a .made-by .now)) (a .i) _ (omega arith) (rw (g, f, e, d))
 
 pub made-at-spec : {M : Type 1} → statement M
 made-at-spec =

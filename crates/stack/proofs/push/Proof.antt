@@ -1,6 +1,5 @@
 -- `push` meets its contract: each table is written at place n, and that is the definition's push.
-use Prim.Native.Nat.{_≤_, _<_}
-use native.Mathlib.Omega.{arith}
+use Prim.Native.Nat.{_<_}
 use lib.ListN.{length}
 use mathlib.Core.Path.{_≡_}
 use Rattle.stack.specs.Stack.{tables, equationOf, withEquation}
@@ -35,8 +34,7 @@ unfolding withEquation equationOf
 returns c =
     let a = c .before .before .before .before .before .before .before .before .before .before .before .before .args in
     let s = tables (a .numbers .now) (a .lefts .now) (a .rights .now) (a .left-images .now) (a .right-images .now) in
-    let h : a .n < 576 = c .before .before .before .before .before .before .before .before .before .before .before .before .pre .0 in
-    let k : a .atoms ≤ 32 = c .before .before .before .before .before .before .before .before .before .before .before .before .pre .1 in
+    let h : a .n < 576 = c .before .before .before .before .before .before .before .before .before .before .before .before .pre in
     let l : length (a .e .left .images) ≡ 32 = left-length (c .before .before .before .before .before .before .before .before .before .before .before .before) in
     let m : length (a .e .right .images) ≡ 32 = right-length (c .before .before .before .before .before .before .before .before .before .before .before .before) in
     let d = c .before .before .before .before .before .before .before .before .set-byte .ensures in
@@ -44,8 +42,8 @@ returns c =
     let f = c .before .before .before .before .set-number2 .ensures in
     let g = c .before .before .store .ensures in
     let i = c .store2 .ensures in
-    pushed (a .atoms) k (a .n) s (room (a .n) s h (c .before .before .before .before .before .before .before .before .before .set-byte-arg .given .0 .1) (c .before .before .before .before .before .before .before .set-number-arg .given .0 .1) (c .before .before .before .before .before .set-number-arg2 .given .0 .1) (c .before .before .before .store-arg .given .0 .1) (c .before .store-arg2 .given .0 .1))
-    (a .e) (omega arith) (omega arith) _ (rw (d, e, f, g, i))
+    pushed (a .n) s (room (a .n) s h (c .before .before .before .before .before .before .before .before .before .set-byte-arg .given .0 .1) (c .before .before .before .before .before .before .before .set-number-arg .given .0 .1) (c .before .before .before .before .before .set-number-arg2 .given .0 .1) (c .before .before .before .store-arg .given .0 .1) (c .before .store-arg2 .given .0 .1))
+    (a .e) l m _ (rw (d, e, f, g, i))
 
 pub push-spec : {M : Type 1} → statement M
 push-spec =

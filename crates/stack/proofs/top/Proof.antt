@@ -1,5 +1,5 @@
 -- `top` meets its contract: what is read at place n is the definition's top.
-use Prim.Native.Nat.{_≤_, _<_}
+use Prim.Native.Nat.{_<_}
 use Rattle.stack.specs.Stack.{tables, pendingAt}
 use Rattle.stack.proofs.Stack.{room, topped}
 use borrow.Author.Needs.{needs}
@@ -26,14 +26,13 @@ unfolding pendingAt
 returns c =
     let a = c .before .before .before .before .before .before .before .before .before .before .args in
     let s = tables (a .numbers .now) (a .lefts .now) (a .rights .now) (a .left-images .now) (a .right-images .now) in
-    let h : a .n < 576 = c .before .before .before .before .before .before .before .before .before .before .pre .0 in
-    let k : a .atoms ≤ 32 = c .before .before .before .before .before .before .before .before .before .before .pre .1 in
+    let h : a .n < 576 = c .before .before .before .before .before .before .before .before .before .before .pre in
     let d = c .byte .ensures in
     let e = c .before .before .before .before .number .ensures in
     let f = c .before .before .number2 .ensures in
     let g = c .before .before .before .before .before .before .before .before .load .ensures in
     let i = c .before .before .before .before .before .before .load2 .ensures in
-    topped (a .atoms) k (a .n) s (room (a .n) s h (c .before .byte-arg .given .0) (c .before .before .before .before .before .number-arg .given .0) (c .before .before .before .number-arg2 .given .0) (c .before .before .before .before .before .before .before .before .before .load-arg .given .0) (c .before .before .before .before .before .before .before .load-arg2 .given .0))
+    topped (a .n) s (room (a .n) s h (c .before .byte-arg .given .0) (c .before .before .before .before .before .number-arg .given .0) (c .before .before .before .number-arg2 .given .0) (c .before .before .before .before .before .before .before .before .before .load-arg .given .0) (c .before .before .before .before .before .before .before .load-arg2 .given .0))
     _ (rw (d, e, f, g, i))
 
 pub top-spec : {M : Type 1} → statement M

@@ -1,5 +1,5 @@
 -- `bind` meets its contract: the value is the other side under the inverse of the whole permutation.
-use Rattle.machine.proofs.Performing.{binding-is}
+use Rattle.machine.proofs.Performing.{value-is, length-value}
 use Prim.Native.Nat.{_≤_}
 use mathlib.Core.Path.{_≡_}
 use lib.ListN.{length}
@@ -29,7 +29,10 @@ add-requires c κs = search needs
 returns : tie.Need-returns
 returns c =
     let a = c .before .before .before .before .before .before .before .before .before .args in
-    rw (binding-is (a .s .now) (a .atoms) (table (a .atoms) (a .p)) (a .m .0) (a .x .0) (a .number) _ _ _ (a .q) (a .k) (few (c .before .before .before .before .before .before .before .before .before)) (long (c .before .before .before .before .before .before .before .before .before)) (c .before .before .before .before .before .before .before .whole .ensures) (c .before .before .before .before .before .before .invert .ensures) (c .before .before .before .before .before .compose .ensures)) at (c .add .ensures)
+    record {
+      added = rw (value-is (a .s .now) (a .atoms) (table (a .atoms) (a .p)) (a .m .0) _ _ _ (a .q) (a .k) (c .before .before .before .before .before .before .before .whole .ensures) (c .before .before .before .before .before .before .invert .ensures) (c .before .before .before .before .before .compose .ensures)) at (c .add .ensures);
+      images = length-value (a .atoms) _ (a .q) (a .k) (few (c .before .before .before .before .before .before .before .before .before)) (long (c .before .before .before .before .before .before .before .before .before));
+    }
 
 pub bind-spec : {M : Type 1} → statement M
 bind-spec =

@@ -9,7 +9,7 @@ push-requires c κs = search needs
 
 returns : tie.Need-returns
 returns c =
-    grown-one _ _ _ _ _ (c .push .ensures)
+    grown-one _ _ _ _ (c .push .ensures)
 
 pub one-part-spec : {M : Type 1} → statement M
 one-part-spec = tie.close (tie.spec push-requires returns)

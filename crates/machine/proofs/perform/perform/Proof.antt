@@ -38,8 +38,7 @@ enum-known-act : tie.Need-enum-known-act
 enum-known-act c = search needs
 
 one-part-requires : tie.Need-one-part-requires
-one-part-requires c κs =
-    (takes (c .before .before .before .before .before .before .before .before .before .before .before .before .before) _ (c .before .before .before .before .before .before .act .given .1), few (c .before .before .before .before .before .before .before .before .before .before .before .before .before))
+one-part-requires c κs = takes (c .before .before .before .before .before .before .before .before .before .before .before .before .before) _ (c .before .before .before .before .before .before .act .given .1)
 
 add-t55 : tie.Need-add-t55
 add-t55 c =
@@ -49,8 +48,7 @@ enum-known-act-2 : tie.Need-enum-known-act-2
 enum-known-act-2 c = search needs
 
 two-parts-requires : tie.Need-two-parts-requires
-two-parts-requires c κs =
-    (takes (c .before .before .before .before .before .before .before .before .before .before .before .before .before) _ (c .before .before .before .before .before .before .act2 .given .1), few (c .before .before .before .before .before .before .before .before .before .before .before .before .before))
+two-parts-requires c κs = takes (c .before .before .before .before .before .before .before .before .before .before .before .before .before) _ (c .before .before .before .before .before .before .act2 .given .1)
 
 add-t63 : tie.Need-add-t63
 add-t63 c =
@@ -114,11 +112,11 @@ returns-4 c =
 
 returns-5 : tie.Need-returns-5
 returns-5 c =
-    rw (c .before .before .before .before .before .before .before .act .given .1) (gone-pushed _ _ _ _ _ _ _ (c .before .before .before .before .before .before .before .before .before .before .before .before .before .before .pre .keeps) _ _ _ _ _ _ (c .one-part .ensures))
+    rw (c .before .before .before .before .before .before .before .act .given .1) (gone-pushed _ _ _ _ _ _ _ (c .before .before .before .before .before .before .before .before .before .before .before .before .before .before .pre .keeps) _ _ _ _ _ _ (c .one-part .ensures _ (few (c .before .before .before .before .before .before .before .before .before .before .before .before .before .before))))
 
 returns-6 : tie.Need-returns-6
 returns-6 c =
-    rw (c .before .before .before .before .before .before .before .act2 .given .1) (gone-pushed _ _ _ _ _ _ _ (c .before .before .before .before .before .before .before .before .before .before .before .before .before .before .pre .keeps) _ _ _ _ _ _ (c .two-parts .ensures))
+    rw (c .before .before .before .before .before .before .before .act2 .given .1) (gone-pushed _ _ _ _ _ _ _ (c .before .before .before .before .before .before .before .before .before .before .before .before .before .before .pre .keeps) _ _ _ _ _ _ (c .two-parts .ensures _ (few (c .before .before .before .before .before .before .before .before .before .before .before .before .before .before))))
 
 returns-7 : tie.Need-returns-7
 returns-7 c =
@@ -132,11 +130,11 @@ returns-8 c =
 
 returns-9 : tie.Need-returns-9
 returns-9 c =
-    rw (c .before .before .before .before .before .before .act5 .given .1) (gone-bound _ _ _ _ _ _ _ (c .before .before .before .before .before .before .before .before .before .before .before .before .before .pre .keeps) _ _ _ _ _ _ _ (c .bind .ensures))
+    rw (c .before .before .before .before .before .before .act5 .given .1) (gone-bound _ _ _ _ _ _ _ (c .before .before .before .before .before .before .before .before .before .before .before .before .before .pre .keeps) _ _ _ _ _ _ _ (few (c .before .before .before .before .before .before .before .before .before .before .before .before .before)) (c .bind .ensures))
 
 returns-10 : tie.Need-returns-10
 returns-10 c =
-    rw (c .before .before .before .before .before .before .act6 .given .1) (gone-bound _ _ _ _ _ _ _ (c .before .before .before .before .before .before .before .before .before .before .before .before .before .pre .keeps) _ _ _ _ _ _ _ (c .bind2 .ensures))
+    rw (c .before .before .before .before .before .before .act6 .given .1) (gone-bound _ _ _ _ _ _ _ (c .before .before .before .before .before .before .before .before .before .before .before .before .before .pre .keeps) _ _ _ _ _ _ _ (few (c .before .before .before .before .before .before .before .before .before .before .before .before .before)) (c .bind2 .ensures))
 
 pub perform-spec : {M : Type 1} → statement M
 perform-spec =

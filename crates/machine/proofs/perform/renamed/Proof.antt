@@ -21,7 +21,7 @@ raise-side-requires c κs = search needs
 returns : tie.Need-returns
 returns c =
     let a = c .before .before .before .before .before .before .before .before .before .before .args in
-    renamed-to _ _ _ _ _ _ (a .q) _ (a .k) _ _ _ _ (c .before .before .before .before .before .before .before .before .before .before .pre .1) (long (c .before .before .before .before .before .before .before .before .before .before)) (c .before .before .before .before .before .before .before .before .before .swap-after .ensures) (c .before .before .before .one-part .ensures) (c .raise-side .ensures)
+    renamed-to _ _ _ _ _ _ (a .q) _ (a .k) _ _ _ _ (c .before .before .before .before .before .before .before .before .before .before .pre .1) (long (c .before .before .before .before .before .before .before .before .before .before)) (c .before .before .before .before .before .before .before .before .before .swap-after .ensures) (c .before .before .before .one-part .ensures (a .atoms) (c .before .before .before .before .before .before .before .before .before .before .pre .1)) (c .raise-side .ensures)
 
 pub renamed-spec : {M : Type 1} → statement M
 renamed-spec =

@@ -14,8 +14,8 @@ one-part-requires-2 : tie.Need-one-part-requires-2
 one-part-requires-2 c κs = search needs
 
 returns : tie.Need-returns
-returns c =
-    grown-two _ _ _ _ _ _ _ _ _ _ (c .before .before .before .before .before .before .one-part .ensures) (c .one-part2 .ensures)
+returns c A h =
+    grown-two A _ _ _ _ _ _ _ _ _ (c .before .before .before .before .before .before .one-part .ensures A h) (c .one-part2 .ensures A h)
 
 pub two-parts-spec : {M : Type 1} → statement M
 two-parts-spec = tie.close (tie.spec one-part-requires add-one-part one-part-requires-2 returns)

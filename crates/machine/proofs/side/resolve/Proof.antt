@@ -36,11 +36,11 @@ returns : tie.Need-returns Inv-loop μ-loop
 returns c = finish-none _ _ _ _ _ _ _ _ _ _ (c .before .before .loop .inv .1) _ (c .before .before .loop .inv .0) (c .before .form-of .ensures) (c .if1 .taken)
 
 value-of-requires : tie.Need-value-of-requires Inv-loop μ-loop
-value-of-requires c κs = few (c .before .before .before .before)
+value-of-requires c κs = search needs
 
 returns-2 : tie.Need-returns-2 Inv-loop μ-loop
 returns-2 c =
-    finish-free _ _ _ _ _ _ _ _ _ _ (c .before .before .before .before .before .loop .inv .1) _ _ (c .before .before .before .before .before .loop .inv .0) (c .before .before .before .before .form-of .ensures) (c .before .before .value-of .ensures) (not-true _ (c .if2 .taken))
+    finish-free _ _ _ _ _ _ _ _ _ _ (c .before .before .before .before .before .loop .inv .1) _ _ (few (c .before .before .before .before .before .before .before)) (c .before .before .before .before .before .loop .inv .0) (c .before .before .before .before .form-of .ensures) (c .before .before .value-of .ensures) (not-true _ (c .if2 .taken))
 
 whole-requires : tie.Need-whole-requires Inv-loop μ-loop
 whole-requires c κs =
@@ -58,8 +58,8 @@ loop-less c = omega (arith, c .before .before .before .before .before .before .b
 loop-again : tie.Need-loop-again Inv-loop μ-loop
 loop-again c = (
   c .before .before .before .before .before .before .before .value-of .ensures .there _ (c .before .before .before .before .before .before .before .before .before .before .before .before .pre .2) (not-false _ (c .before .before .before .before .before .if2 .left)),
-  kept-more _ _ _ _ _ _ _ _ _ _ (c .before .before .before .before .before .before .before .before .before .before .loop .inv .1) _ _ _ (c .before .before .before .before .before .before .before .before .before .before .before .before .pre .0 .number) (few (c .before .before .before .before .before .before .before .before .before .before .before .before)) (c .before .before .before .before .before .before .before .before .before .form-of .ensures) (c .before .before .before .before .before .before .before .value-of .ensures) (not-false _ (c .before .before .before .before .before .if2 .left)) (c .before .before .before .before .before .before .before .before .if1 .left)
-      (long (c .before .before .before .before .before .before)) (rw (c .before .before .before .before .whole .ensures) at (c .before .compose .ensures)),
+  kept-more _ _ _ _ _ _ _ _ _ _ (c .before .before .before .before .before .before .before .before .before .before .loop .inv .1) _ _ _ _ (c .before .before .before .before .before .before .before .before .before .before .before .before .pre .0 .number) (few (c .before .before .before .before .before .before .before .before .before .before .before .before)) (c .before .before .before .before .before .before .before .before .before .form-of .ensures) (c .before .before .before .before .before .before .before .value-of .ensures) (not-false _ (c .before .before .before .before .before .if2 .left)) (c .before .before .before .before .before .before .before .before .if1 .left)
+      (long (c .before .before .before .before .before .before)) (c .before .before .before .before .whole .ensures) (c .before .compose .ensures),
 )
 
 pub resolve-spec : {M : Type 1} → statement M

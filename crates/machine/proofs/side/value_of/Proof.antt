@@ -26,13 +26,13 @@ identity-requires : tie.Need-identity-requires
 identity-requires c κs = search needs
 
 returns : tie.Need-returns
-returns c = valued-other _ _ _ _ _ _ (other (c .before .before .args .form) (c .before .match .keys2))
+returns c = valued-other _ _ _ _ _ (other (c .before .before .args .form) (c .before .match .keys2))
 
 look-up-requires : tie.Need-look-up-requires
 look-up-requires c κs = search needs
 
 returns-2 : tie.Need-returns-2
-returns-2 c = rw (c .before .before .form .given .1) (valued-suspension _ _ _ _ _ _ (c .look-up .ensures))
+returns-2 c = rw (c .before .before .form .given .1) (valued-suspension _ _ _ _ _ (c .look-up .ensures))
 
 pub value-of-spec : {M : Type 1} → statement M
 value-of-spec =

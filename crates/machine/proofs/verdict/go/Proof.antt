@@ -1,6 +1,6 @@
 -- `go` meets its contract. The loop's invariant: the tables hold a state that the run comes to, and what is left of the run from there is what the whole
 -- run ends with. The measure is how many steps may still be taken.
-use Prim.Native.Nat.{_-_, _≤_}
+use Prim.Native.Nat.{_-_}
 use native.Mathlib.Omega.{arith}
 use borrow.Author.Needs.{needs}
 use mathlib.Core.Path.{_≡_, refl}
@@ -21,9 +21,6 @@ abbrev μ-loop : tie.MeasureT-loop
 μ-loop s places node-variables numbers₀ lefts₀ rights₀ left-images₀ right-images₀ order₀ roots₀ value-images₀ made-by₀ asked-nodes₀ first-nodes₀ asked-variables₀ first-variables₀ atoms protected equations limit n₀ steps₀ bound₀ count₀ numbers lefts rights left-images right-images order roots value-images made-by asked-nodes first-nodes asked-variables first-variables n steps bound count =
     limit - steps
 
-few : (c : tie.Start Inv-loop μ-loop) → c .args .atoms ≤ 32
-few c = rw (c .pre .readied .number) (c .pre .readied .readable .few-atoms)
-
 empty-requires : tie.Need-empty-requires Inv-loop μ-loop
 empty-requires c κs =
     search needs
@@ -38,7 +35,7 @@ sub-n c =
 
 top-requires : tie.Need-top-requires Inv-loop μ-loop
 top-requires c κs =
-    let k = going-few _ _ (c .before .before .before .before .before .before .before .before .before .args .node-variables .now) _ _ _ _ _ _ _ _ (c .before .before .before .before .before .before .before .before .before .pre .readied) (c .before .before .before .before .before .before .loop .inv) in let a = few (c .before .before .before .before .before .before .before .before .before) in omega (arith, k, a, c .before .before .before .before .before .if1 .left)
+    let k = going-few _ _ (c .before .before .before .before .before .before .before .before .before .args .node-variables .now) _ _ _ _ _ _ _ _ (c .before .before .before .before .before .before .before .before .before .pre .readied) (c .before .before .before .before .before .before .loop .inv) in omega (arith, k, c .before .before .before .before .before .if1 .left)
 
 step-requires : tie.Need-step-requires Inv-loop μ-loop
 step-requires c κs =
