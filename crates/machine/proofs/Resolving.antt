@@ -24,12 +24,12 @@ use Rattle.problem.specs.declared.Form.{Form}
 use Rattle.problem.specs.declared.Form.the-variants.{Unit, Atom, Abstraction, Pair, Application, Suspension}
 use Rattle.run.specs.Meaning.{Side, Binding}
 use Rattle.run.specs.Run.{Ground, permuted, top, under, replaced, resolvedIn, resolved}
-use Rattle.bindings.specs.Bindings.{tables, bindingsOf, Keeps, foundAt, valueIn, sideOf, LookedUp}
+use Rattle.bindings.specs.Bindings.{Bindings, tables, bindingsOf, Keeps, foundAt, valueIn, sideOf, LookedUp}
 use Rattle.bindings.specs.declared.Found.{Found}
 use Rattle.bindings.specs.declared.Value.{Value}
-use Rattle.bindings.proofs.Bindings.{valueIn-bound, valueIn-unbound}
+use Rattle.bindings.proofs.Bindings.{valueOf-set, valueIn-bound, valueIn-unbound}
 use Rattle.machine.specs.declared.side.Side.{Side as HeldSide}
-use Rattle.machine.specs.Side.{groundOf, sideAt, wholeOf, valueTold, Suspends, RootsThere, Valued, Resolved}
+use Rattle.machine.specs.Side.{groundOf, sideAt, wholeOf, valueTold, isBound, Suspends, RootsThere, Valued, Resolved}
 
 -- ---- a suspension under a side's images
 
@@ -185,3 +185,20 @@ module _ (s : List ℕ) (A : ℕ) (roots images : List ℕ) (bound k : ℕ) (bef
       ap (table A) c ∙ table-after A (table A outer) U (length-table A (r .value .images) (omega arith)) ∙ ap (λ (T : Table). after T U) o in
       kept f order madeBy i ∙ resolved-on s f bs (sideAt A p at) left (sideOf A (r .value)) n u
       ∙ rw (m, ← a) refl
+
+-- ---- a side that is no suspension of a bound variable
+
+unbound-told : (A : ℕ) (t : Bindings) (k bound : ℕ) → Keeps (t .order) k bound → (w : Form) → isBound bound w ≡ false → valueTold (bindingsOf A t k) w ≡ none
+unbound-told A t k bound h Unit e = refl
+unbound-told A t k bound h (Atom a) e = refl
+unbound-told A t k bound h (Abstraction a n) e = refl
+unbound-told A t k bound h (Pair l r) e = refl
+unbound-told A t k bound h (Application f n) e = refl
+unbound-told A t k bound h (Suspension x) e = valueOf-set A t k bound h (x .0) ∙ rw e
+
+-- It resolves to itself, however many bindings there are.
+pub resolved-itself : (s : List ℕ) (A : ℕ) (roots images : List ℕ) (bound k : ℕ) (p : Permutation) (at : NodeId) (w : Form) → at .0 < length (problemOf s .nodes)
+    → w ≡ formTold (formNow s (at .0)) → isBound bound w ≡ false → Resolved s A roots images bound k (sideAt A p at) (record { images = p; node = at; form = w })
+resolved-itself s A roots images bound k p at w t e b =
+    finish s A roots images bound k (sideAt A p at) p at k (λ f order madeBy h. refl) w t e λ f order madeBy h.
+    resolved-stop s f (bindingsOf A (tables order roots images madeBy) k) (sideAt A p at) k (rw e at (unbound-told A (tables order roots images madeBy) k bound h w b))

@@ -1,7 +1,7 @@
 -- Sides as the code has them, against the definition's (run, specs/Meaning.antt). Definitions alone; their laws are in proofs/.
 use Prim.Native.Nat.{ℕ, _≤_, _<_}
 use mathlib.Core.Path.{_≡_}
-use mathlib.Core.Bool.{Bool, true}
+use mathlib.Core.Bool.{Bool, true, false}
 use mathlib.Core.List.{List}
 use mathlib.Core.Option.{Option, none}
 use lib.ListN.{length, getD}
@@ -48,6 +48,15 @@ valueTold bs (Abstraction a n) = none
 valueTold bs (Pair l r) = none
 valueTold bs (Application f n) = none
 valueTold bs (Suspension x) = valueOf bs (x .0)
+
+-- Whether a form is a suspension of a variable of the set of those that are bound.
+abbrev pub isBound : ℕ → Form → Bool
+isBound bound Unit = false
+isBound bound (Atom a) = false
+isBound bound (Abstraction a n) = false
+isBound bound (Pair l r) = false
+isBound bound (Application f n) = false
+isBound bound (Suspension x) = member bound (x .0)
 
 -- The form is a suspension.
 abbrev pub Suspends : Form → Type 0

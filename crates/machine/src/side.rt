@@ -6,7 +6,7 @@ ghost use Rattle.permutation.specs.Store.{table};
 ghost use Rattle.permutation.specs.Table.{after, ofSwaps};
 ghost use Rattle.problem.specs.Held.{problemOf};
 ghost use Rattle.problem.specs.Look.{formNow, Suspended, swapsOf};
-ghost use Rattle.machine.specs.Side.{Readied, Valued, RootsThere, Resolved, sideAt, wholeOf};
+ghost use Rattle.machine.specs.Side.{Readied, isBound, Valued, RootsThere, Resolved, sideAt, wholeOf};
 use bindings::Found;
 use bindings::Value;
 use names::NodeId;
@@ -56,6 +56,16 @@ fn value_of(roots: &[u16; 64], value_images: &[u8; 2048], bound: VariableSet, fo
         };
     };
     bindings::look_up(roots, value_images, bound, x)
+}
+
+// Whether a form is a suspension of a bound variable.
+pub fn is_bound(form: Form, bound: VariableSet) -> bool
+    ensures { λ r. ⌜ r ≡ isBound (bound .0) form ⌝ }
+{
+    let Form::Suspension(x) = form else {
+        return false;
+    };
+    bound.has(x)
 }
 
 // "A side that is a suspension of a bound variable is first replaced by its value under the permutations, as often as needed": at most once for each

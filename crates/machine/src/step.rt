@@ -1,10 +1,13 @@
-// One step of the run: both sides are resolved, the rule that fits is told, and it is done.
+// One step of the run: both sides are resolved, the rule that fits is told, and it is done. Most sides are no suspension of a bound variable: that is
+// asked here, before the loop that resolves one is entered.
 ghost use Rattle.sets.specs.Bits.{member};
 ghost use Rattle.stack.specs.Stack as pending;
 ghost use Rattle.bindings.specs.Bindings as made;
 ghost use Rattle.demands.specs.Demands.{sheet};
 ghost use Rattle.machine.specs.Step.{tablesOf, Performed, Present, stepHere};
 use crate::perform::Stepped;
+use crate::side;
+use crate::side::Side;
 use sets::VariableSet;
 use stack::Pending;
 
@@ -40,8 +43,24 @@ pub fn step(
     let l = e.left_node;
     let q = e.right;
     let r = e.right_node;
-    let left = crate::side::resolve(s, places, atoms, roots, value_images, bound, count, p, l);
-    let right = crate::side::resolve(s, places, atoms, roots, value_images, bound, count, q, r);
+    let f = problem::look::form_of(s, places, l);
+    let mut left = Side {
+        images: p,
+        node: l,
+        form: f,
+    };
+    if side::is_bound(f, bound) {
+        left = side::resolve(s, places, atoms, roots, value_images, bound, count, p, l);
+    }
+    let g = problem::look::form_of(s, places, r);
+    let mut right = Side {
+        images: q,
+        node: r,
+        form: g,
+    };
+    if side::is_bound(g, bound) {
+        right = side::resolve(s, places, atoms, roots, value_images, bound, count, q, r);
+    }
     let act = crate::rule::decide(protected, bound, roots, node_variables, atoms, left, right);
     crate::perform::perform(
         s,
