@@ -306,6 +306,20 @@ module _ (p : Problem) (wanted₀ asked₀ : List ℕ) where
       has (of-node a n) h = b .nodes a n (h .0) h
       has (of-variable a X) h = b .variables a X h
 
+  -- Where nothing is demanded of a node, nothing is to be visited.
+  beginning-none : ((i : ℕ) → i < length (p .nodes) → (a : ℕ) → member (getD wanted₀ i 0) a ≡ false) → (seen asked : List ℕ) → Beginning 0 seen asked
+      → Beginning (length (p .nodes)) seen asked
+  beginning-none bare seen asked b = record {
+    variables = b .variables;
+    nodes = λ a n l h. absurd (true≢false (sym (h .1) ∙ bare n l a));
+    from = b .from;
+    looked = b .looked;
+  }
+
+  pub begun-none : ((i : ℕ) → i < length (p .nodes) → (a : ℕ) → member (getD wanted₀ i 0) a ≡ false) → (seen : List ℕ) → ((i : ℕ) → i < length (p .nodes) → getD seen i 0 ≡ 0)
+      → Begun (p .nodes) (Marked p wanted₀ asked₀) (Marked p seen asked₀)
+  begun-none bare seen z = beginning-end seen asked₀ (beginning-none bare seen asked₀ (beginning-start seen z))
+
 -- ---- clashes, and all together
 
 clash-some : (f : Node) (w : ℕ) → clashAt f w ≡ true → (a : ℕ) × (f ≡ atom-form a) × (member w a ≡ true)
@@ -316,13 +330,16 @@ clash-some (pair-form l r) w e = absurd (true≢false (sym e))
 clash-some (application-form f n) w e = absurd (true≢false (sym e))
 clash-some (suspension-form π X) w e = absurd (true≢false (sym e))
 
+pub clash-unmarked : (f : Node) (w : ℕ) → ((a : ℕ) → member w a ≡ false) → clashAt f w ≡ false
+clash-unmarked unit-form w e = refl
+clash-unmarked (atom-form a) w e = e a
+clash-unmarked (abstraction-form a n) w e = refl
+clash-unmarked (pair-form l r) w e = refl
+clash-unmarked (application-form f n) w e = refl
+clash-unmarked (suspension-form π X) w e = refl
+
 pub clash-none : (f : Node) (w : ℕ) → w ≡ 0 → clashAt f w ≡ false
-clash-none unit-form w e = refl
-clash-none (atom-form a) w e = ap (λ (w : ℕ). member w a) e ∙ member-empty a
-clash-none (abstraction-form a n) w e = refl
-clash-none (pair-form l r) w e = refl
-clash-none (application-form f n) w e = refl
-clash-none (suspension-form π X) w e = refl
+clash-none f w e = clash-unmarked f w (λ a. ap (λ (w : ℕ). member w a) e ∙ member-empty a)
 
 clash-here : (f : Node) (w a : ℕ) → f ≡ atom-form a → member w a ≡ true → clashAt f w ≡ true
 clash-here f w a q e = ap (λ (f : Node). clashAt f w) q ∙ e

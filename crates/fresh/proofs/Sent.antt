@@ -5,13 +5,14 @@ use native.Mathlib.Nat.{zero-add}
 use native.Mathlib.Numerals.{add-one}
 use mathlib.Core.Path.{_≡_, refl, sym, _∙_, ap}
 use mathlib.Core.Logic.{_≢_}
-use mathlib.Core.Bool.{Bool, true, false, cond}
+use mathlib.Core.Bool.{Bool, true, false, not, cond, true≢false}
 use mathlib.Core.List.{List, [], _∷_}
 use lib.ListN.{length, getD, drop, set}
+use lib.Dec.{eqb}
 use lib.Seq.{drop-cons, getD-set-same, getD-set-other}
 use lib.Pow.{pow-lt}
 use Rattle.sets.specs.Bits.{member, union, inserted, removed, setOf}
-use Rattle.sets.proofs.Bits.{member-within, setOf-lt, member-setOf, setOf-unique, inserted-within, member-inserted-same, member-inserted-other, member-removed-same, member-removed-other, union-lt, inserted-lt, removed-le}
+use Rattle.sets.proofs.Bits.{by-member, empty-no-member, member-union-left, member-union-right, member-within, setOf-lt, member-setOf, setOf-unique, inserted-within, member-inserted-same, member-inserted-other, member-removed-same, member-removed-other, union-lt, inserted-lt, removed-le}
 use Rattle.permutation.specs.Swaps.{Swaps, swapped, act, Within, swapsIn}
 use Rattle.permutation.proofs.Swaps.{by-eq, swapped-left, swapped-right, swapped-other, within}
 use Rattle.fresh.specs.Marks.{sentInto}
@@ -142,3 +143,24 @@ passing-all s w i r p h =
 
 pub cleared-more : (t : List ℕ) (i : ℕ) → i < length t → ((k : ℕ) → k < i → getD t k 0 ≡ 0) → (k : ℕ) → k < i + 1 → getD (set t i 0) k 0 ≡ 0
 cleared-more t i h e k l = by-eq k i (λ q. rw q (getD-set-same t i 0 0 h)) (λ d. getD-set-other t i k 0 0 d ∙ e k (omega arith))
+
+-- ---- rows joined
+
+pub joined-more : (rows : List ℕ) (all row more i : ℕ) → ((k : ℕ) → k < i → (a : ℕ) → member (getD rows k 0) a ≡ true → member all a ≡ true) → row ≡ getD rows i 0 → more ≡ union all row
+    → (k : ℕ) → k < i + 1 → (a : ℕ) → member (getD rows k 0) a ≡ true → member more a ≡ true
+joined-more rows all row more i h e q k l a m =
+    rw (q, e)
+    (by-eq k i (λ z. member-union-right all (getD rows i 0) a (ap (λ (n : ℕ). member (getD rows n 0) a) (sym z) ∙ m)) (λ d. member-union-left all (getD rows i 0) a (h k (omega arith) a m)))
+
+pub not-true : (b : Bool) → not b ≡ true → b ≡ false
+not-true true e = absurd (true≢false (sym e))
+not-true false e = refl
+
+not-false : (b : Bool) → not b ≡ false → b ≡ true
+not-false true e = refl
+not-false false e = absurd (true≢false e)
+
+pub joined-none : (rows : List ℕ) (all : ℕ) (empty : Bool) (i : ℕ) → ((k : ℕ) → k < i → (a : ℕ) → member (getD rows k 0) a ≡ true → member all a ≡ true) → empty ≡ eqb all 0 → not empty ≡ false
+    → (k : ℕ) → k < i → (a : ℕ) → member (getD rows k 0) a ≡ false
+joined-none rows all empty i h e q k l a =
+    by-member (getD rows k 0) a (λ m. absurd (true≢false (sym (h k l a m) ∙ empty-no-member all a (sym e ∙ not-false empty q)))) (λ m. m)

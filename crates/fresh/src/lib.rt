@@ -3,7 +3,7 @@
 // and no pair of atom and node is looked at twice. Whether a demand fails is read off the marks in the end.
 
 ghost use mathlib.Core.Path.{_≡_};
-ghost use mathlib.Core.Bool.{true, _&&_, not};
+ghost use mathlib.Core.Bool.{true, false, _&&_, not};
 ghost use lib.Dec.{eqb};
 ghost use Prim.Native.Nat.{ℕ, _≤_, _<_};
 ghost use lib.ListN.{length, getD};
@@ -51,6 +51,20 @@ fn clear(rows: &mut [u32], n: usize)
         rows[i] = 0;
         i += 1;
     }
+}
+
+// Whether one of the first n rows has an atom. The rows are joined with no test between them, so that many are taken at once.
+fn any(rows: &[u32], n: usize) -> bool
+    requires { ⌜ n ≤ length (now rows) ⌝ }
+    ensures { λ r. ⌜ (r ≡ false → (i : ℕ) → i < n → (a : ℕ) → member (getD (now (rows .entry)) i 0) a ≡ false) ⌝ }
+{
+    let mut all = AtomSet::empty();
+    let mut i: usize = 0;
+    while i < n {
+        all = all.union(atoms_at(rows, i));
+        i += 1;
+    }
+    !all.is_empty()
 }
 
 // Each atom of the set under one swap.
@@ -293,7 +307,7 @@ fn close(
 }
 
 // Visits each node of which atoms are demanded.
-fn begin(
+fn visit_demanded(
     s: &[u8],
     places: &[u16; 512],
     nodes: usize,
@@ -317,6 +331,25 @@ fn begin(
     }
 }
 
+// The same, with nothing to do where nothing is demanded.
+fn begin(
+    s: &[u8],
+    places: &[u16; 512],
+    nodes: usize,
+    asked_nodes: &[u32; 512],
+    seen: &mut [u32; 512],
+    asked_variables: &mut [u32; 64],
+)
+    requires held { ⌜ Standing (now s) (now places) × (nodes ≡ length (problemOf (now s) .nodes)) ⌝ }
+    requires none { ⌜ ((i : ℕ) → i < nodes → getD (now seen) i 0 ≡ 0) ⌝ }
+    ensures { λ r. ⌜ Begun (problemOf (now (s .entry)) .nodes) (Marked (problemOf (now (s .entry))) (now («asked_nodes» .entry)) (now («asked_variables» .entry))) (Marked (problemOf (now (s .entry))) (now (seen .exit)) (now («asked_variables» .exit))) ⌝ }
+{
+    if !any(asked_nodes, nodes) {
+        return;
+    }
+    visit_demanded(s, places, nodes, asked_nodes, seen, asked_variables);
+}
+
 // Whether a node is an atom of the set.
 fn clashes_at(s: &[u8], places: &[u16; 512], node: NodeId, atoms: AtomSet) -> bool
     requires { ⌜ NodeStands (now s) (now places) (node .0) ⌝ }
@@ -334,7 +367,7 @@ fn clashes_at(s: &[u8], places: &[u16; 512], node: NodeId, atoms: AtomSet) -> bo
 }
 
 // Whether an atom is marked for a node that is that atom. The form is looked at only where atoms are marked.
-fn clashing(s: &[u8], places: &[u16; 512], nodes: usize, seen: &[u32; 512]) -> bool
+fn clashing_marked(s: &[u8], places: &[u16; 512], nodes: usize, seen: &[u32; 512]) -> bool
     requires { ⌜ Standing (now s) (now places) × (nodes ≡ length (problemOf (now s) .nodes)) ⌝ }
     ensures { λ r. ⌜ Clashed (problemOf (now (s .entry)) .nodes) (now (seen .entry)) r ⌝ }
 {
@@ -351,6 +384,17 @@ fn clashing(s: &[u8], places: &[u16; 512], nodes: usize, seen: &[u32; 512]) -> b
         }
     }
     false
+}
+
+// The same, with nothing to do where nothing is marked.
+fn clashing(s: &[u8], places: &[u16; 512], nodes: usize, seen: &[u32; 512]) -> bool
+    requires { ⌜ Standing (now s) (now places) × (nodes ≡ length (problemOf (now s) .nodes)) ⌝ }
+    ensures { λ r. ⌜ Clashed (problemOf (now (s .entry)) .nodes) (now (seen .entry)) r ⌝ }
+{
+    if !any(seen, nodes) {
+        return false;
+    }
+    clashing_marked(s, places, nodes, seen)
 }
 
 // "the demands of tags 21 and 22 and those raised are resolved under the bindings": the atoms demanded of each node and of each variable come in the
