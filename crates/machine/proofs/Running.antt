@@ -20,11 +20,12 @@ use Rattle.bindings.proofs.Bindings.{keeps-none}
 use Rattle.demands.specs.Demands.{Sheet, sheet, emptied, Raised}
 use Rattle.demands.proofs.Demands.{raised-none}
 use Rattle.occurs.specs.Reached.{FilledBelow}
-use Rattle.machine.specs.Side.{Readied, groundOf}
-use Rattle.machine.specs.Step.{Tables, tablesOf, GoneOn, Performed, FromStart, Present, stepHere}
+use Rattle.rule.specs.Side.{Readied, groundOf}
+use Rattle.perform.specs.Performed.{Tables, tablesOf, GoneOn, Performed}
+use Rattle.machine.specs.Step.{FromStart, Present, stepHere}
 use Rattle.machine.specs.Run.{Ready, Began, Finished, Ended, endOf}
-use Rattle.machine.specs.declared.perform.Stepped.{Stepped}
-use Rattle.machine.specs.declared.perform.Outcome.the-variants as outcome
+use Rattle.perform.specs.declared.Stepped.{Stepped}
+use Rattle.perform.specs.declared.Outcome.the-variants as outcome
 use Rattle.machine.specs.declared.verdict.Ran.{Ran}
 use Rattle.machine.specs.declared.verdict.Verdict.the-variants as verdict
 use Rattle.machine.proofs.Stepping.{length-stackOf}

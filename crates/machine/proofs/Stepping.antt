@@ -33,13 +33,14 @@ use Rattle.bindings.proofs.Bindings.{valueOf-set}
 use Rattle.occurs.specs.Reached.{Answered, Rooted}
 use Rattle.occurs.proofs.Bindings.{rooted}
 use Rattle.occurs.proofs.Meaning.{occurs-meaning}
-use Rattle.machine.specs.declared.side.Side.{Side as HeldSide}
-use Rattle.machine.specs.declared.rule.Act.{Act}
-use Rattle.machine.specs.declared.rule.Act.the-variants.{Done, Clash, Inside, Protection, Part, Parts, Renamed, Same, BindLeft, BindRight}
-use Rattle.machine.specs.Side.{groundOf, sideAt, wholeOf, RootsThere, Resolved}
-use Rattle.machine.specs.Rule.{stepOf, ruleAct, Told, Free, Decided}
-use Rattle.machine.specs.Step.{Takes, Present, stepHere}
-use Rattle.machine.proofs.Ruling.{ruled, wholes, Names, names}
+use Rattle.rule.specs.declared.side.Side.{Side as HeldSide}
+use Rattle.rule.specs.declared.Act.{Act}
+use Rattle.rule.specs.declared.Act.the-variants.{Done, Clash, Inside, Protection, Part, Parts, Renamed, Same, BindLeft, BindRight}
+use Rattle.rule.specs.Side.{groundOf, sideAt, wholeOf, RootsThere, Resolved}
+use Rattle.rule.specs.Rule.{stepOf, ruleAct, Told, Free, Decided}
+use Rattle.perform.specs.Performed.{Takes}
+use Rattle.machine.specs.Step.{Present, stepHere}
+use Rattle.rule.proofs.Ruling.{ruled, wholes, Names, names}
 
 -- ---- lengths
 

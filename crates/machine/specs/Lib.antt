@@ -1,4 +1,2 @@
-pub mod Side
-pub mod Rule
 pub mod Step
 pub mod Run

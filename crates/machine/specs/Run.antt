@@ -11,8 +11,8 @@ use Rattle.stack.specs.Stack.{Stack, stackOf, Standing}
 use Rattle.bindings.specs.Bindings.{bindingsOf, Keeps}
 use Rattle.demands.specs.Demands.{Sheet, Raised}
 use Rattle.occurs.specs.Reached.{FilledBelow}
-use Rattle.machine.specs.Side.{Readied, groundOf}
-use Rattle.machine.specs.Step.{Tables}
+use Rattle.rule.specs.Side.{Readied, groundOf}
+use Rattle.perform.specs.Performed.{Tables}
 use Rattle.machine.specs.declared.verdict.Ran.{Ran}
 use Rattle.machine.specs.declared.verdict.Verdict.the-variants as verdict
 

@@ -4,10 +4,11 @@ ghost use Rattle.sets.specs.Bits.{member};
 ghost use Rattle.stack.specs.Stack as pending;
 ghost use Rattle.bindings.specs.Bindings as made;
 ghost use Rattle.demands.specs.Demands.{sheet};
-ghost use Rattle.machine.specs.Step.{tablesOf, Performed, Present, stepHere};
-use crate::perform::Stepped;
-use crate::side;
-use crate::side::Side;
+ghost use Rattle.perform.specs.Performed.{tablesOf, Performed};
+ghost use Rattle.machine.specs.Step.{Present, stepHere};
+use perform::Stepped;
+use rule::side;
+use rule::side::Side;
 use sets::VariableSet;
 use stack::Pending;
 
@@ -61,8 +62,8 @@ pub fn step(
     if side::is_bound(g, bound) {
         right = side::resolve(s, places, atoms, roots, value_images, bound, count, q, r);
     }
-    let act = crate::rule::decide(protected, bound, roots, node_variables, atoms, left, right);
-    crate::perform::perform(
+    let act = rule::decide(protected, bound, roots, node_variables, atoms, left, right);
+    perform::perform(
         s,
         places,
         numbers,

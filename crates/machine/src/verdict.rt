@@ -3,9 +3,9 @@ ghost use Rattle.sets.specs.Bits.{member};
 ghost use Rattle.stack.specs.Stack as pending;
 ghost use Rattle.bindings.specs.Bindings as made;
 ghost use Rattle.demands.specs.Demands.{sheet};
-ghost use Rattle.machine.specs.Step.{tablesOf};
+ghost use Rattle.perform.specs.Performed.{tablesOf};
 ghost use Rattle.machine.specs.Run.{Began, Ready, Ended, endOf};
-use crate::perform::Outcome;
+use perform::Outcome;
 use sets::VariableSet;
 
 // How a run ends: accepted, limit (8), clash (9), a variable inside its own value (10), protected (11), with the number of the equation.

@@ -23,7 +23,7 @@ use Rattle.bindings.specs.Bindings.{bindingsOf}
 use Rattle.stack.specs.Stack.{Stack}
 use Rattle.demands.specs.Demands.{sheet}
 use Rattle.occurs.specs.Reached.{Filled}
-use Rattle.machine.specs.Step.{Tables, tablesOf}
+use Rattle.perform.specs.Performed.{Tables, tablesOf}
 use Rattle.machine.specs.Run.{Finished, endOf}
 use Rattle.machine.specs.Run as machine
 use Rattle.machine.specs.declared.verdict.Ran.{Ran}

@@ -4,8 +4,8 @@ use native.Mathlib.Omega.{arith}
 use mathlib.Core.Path.{_≡_, sym, _∙_}
 use mathlib.Core.Logic.{⊎-elim}
 use borrow.Author.Needs.{needs}
-use Rattle.machine.specs.Side.{sideAt, Resolved}
-use Rattle.machine.proofs.Resolving.{resolved-itself}
+use Rattle.rule.specs.Side.{sideAt, Resolved}
+use Rattle.rule.proofs.Resolving.{resolved-itself}
 use Rattle.machine.proofs.Stepping.{few, left-there, right-there, roots-there, roots-small, takes-here, step-is}
 use Rattle.machine.proofs.step.step.Statement.{statement}
 use Rattle.machine.proofs.step.step.Tie as tie

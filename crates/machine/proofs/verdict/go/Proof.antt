@@ -7,8 +7,8 @@ use mathlib.Core.Path.{_≡_, refl}
 use Rattle.stack.specs.Stack as pending
 use Rattle.bindings.specs.Bindings as made
 use Rattle.demands.specs.Demands.{sheet}
-use Rattle.machine.specs.declared.perform.Outcome.the-variants as outcome
-use Rattle.machine.specs.Step.{tablesOf}
+use Rattle.perform.specs.declared.Outcome.the-variants as outcome
+use Rattle.perform.specs.Performed.{tablesOf}
 use Rattle.machine.proofs.Running.{Going, going-start, going-few, going-present, going-done, going-limit, going-next, going-clash, going-inside, going-protection}
 use Rattle.machine.proofs.verdict.go.Statement.{statement}
 use Rattle.machine.proofs.verdict.go.Tie as tie
