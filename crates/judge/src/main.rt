@@ -1,10 +1,15 @@
 // One problem on standard input, the judge's line on standard output. An input over 65,535 bytes fills the room of 65,536, and the judge refuses it.
+ghost use mathlib.Core.Path.{_≡_};
+ghost use Prim.Native.Nat.{_≤_};
+ghost use lib.ListN.{length, take};
 ghost use Rattle.run.specs.Answer as run;
 ghost use Rattle.printer.specs.Placed.{Placed};
 ghost use Rattle.judge.specs.Printing.{lineOf};
 
-// What the problem prints, in `out` from its start, and where that ends.
+// What the problem prints, whole, in `out` from its start, and where that ends.
 fn worked(input: &[u8], out: &mut [u8]) -> usize
+    requires { ⌜ 33 ≤ length (now out) ⌝ }
+    ensures { λ r. ⌜ take r (now (out .exit)) ≡ lineOf (run.judge (now (input .entry))) ⌝ }
     ensures { λ r. ⌜ Placed (now (out .entry)) 0 (lineOf (run.judge (now (input .entry)))) r (now (out .exit)) ⌝ }
 {
     let judgement = solver::entries::judge(input);

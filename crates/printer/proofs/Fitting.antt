@@ -15,7 +15,7 @@ use Rattle.permutation.proofs.Swaps.{by-eq}
 use Rattle.field.specs.Field.{Field, cut, whole, front, byte, word, long, Bytes, Stands}
 use Rattle.field.proofs.Standing.{stands, bytes-take, bytes-drop, bytes-body}
 use Rattle.printer.specs.Placed.{pasted, reached, Placed}
-use Rattle.printer.specs.Lines.{decimal, spaced, images, acceptedWord, refusedWord, bindWord, freshWord, newline, acceptedLine, refusedLine, bindLine, freshLine, known, fieldLine, lineOf, linesFrom, answerLines, solverLines}
+use Rattle.printer.specs.Lines.{decimal, spaced, images, acceptedWord, refusedWord, bindWord, freshWord, newline, acceptedLine, refusedLine, bindLine, freshLine, known, fieldLine, lineOf, linesFrom, answerLines, solverLines, judgeLine}
 use Rattle.printer.proofs.Spelling.{decimal-small, decimal-more}
 use Rattle.printer.proofs.Walking.{steps-length, binding-length, fact-length, steps-line, binding-line, fact-line}
 
@@ -105,6 +105,12 @@ solver-length number place output room h k b l m =
     by-eq number 0
     (λ e. rw (eq-eqb number 0 e) (omega (arith, answer-length (take place output) (bytes-take place output b), length-take place output)))
     (λ d. rw (ne-eqb number 0 d) (omega (arith, refused-length number place h k)))
+
+-- And for the judge's line.
+pub judge-length : (number place : ℕ) → number < 256 → place < 18446744073709551616 → length (judgeLine number place) ≤ 33
+unfolding judgeLine
+judge-length number place h k =
+    by-eq number 0 (λ e. rw (eq-eqb number 0 e) (omega arith)) (λ d. rw (ne-eqb number 0 d) (refused-length number place h k))
 
 -- With room enough the text is there, whole, and what was written before it too.
 pub placed-whole : {d d' : List ℕ} {at r : ℕ} {s : List ℕ} → Placed d at s r d' → at + length s ≤ length d → take r d' ≡ take at d ++ s

@@ -2,8 +2,8 @@
 // an empty line on standard output, in order, before the next is read: so nothing grows with their number, and a stream that is cut loses nothing
 // before the cut. The work tables are made once.
 ghost use mathlib.Core.Path.{_≡_};
-ghost use Prim.Native.Nat.{_≤_, min};
-ghost use lib.ListN.{length};
+ghost use Prim.Native.Nat.{_+_, _*_, _≤_, min};
+ghost use lib.ListN.{length, take};
 ghost use Rattle.printer.specs.Placed.{Placed};
 ghost use Rattle.stream.specs.Block.{block};
 ghost use Rattle.stream.specs.Came.{bytesOf};
@@ -75,7 +75,7 @@ fn next(input: &mut [u8]) -> Came
     passed(input, size - n, n)
 }
 
-// One problem: what it prints, in `out` from its start, and where that ends.
+// One problem: what it prints, whole, in `out` from its start, and where that ends.
 fn worked(
     input: &[u8],
     output: &mut [u8],
@@ -101,6 +101,8 @@ fn worked(
     seen: &mut [u32; 512],
     done: &mut [u32; 64],
 ) -> usize
+    requires { ⌜ 4 * length (now output) + 67 ≤ length (now out) ⌝ }
+    ensures { λ r. ⌜ take r (now (out .exit)) ≡ block (now (input .entry)) (now (output .entry)) ⌝ }
     ensures { λ r. ⌜ Placed (now (out .entry)) 0 (block (now (input .entry)) (now (output .entry))) r (now (out .exit)) ⌝ }
 {
     let verdict = solver::entries::solve_with(
@@ -195,7 +197,9 @@ fn all(
     first_variables: &mut [u8; 2048],
     seen: &mut [u32; 512],
     done: &mut [u32; 64],
-) {
+)
+    requires { ⌜ 4 * length (now output) + 67 ≤ length (now out) ⌝ }
+{
     let mut count: usize = 0;
     while count < 18446744073709551615 {
         let came = next(input);
@@ -256,7 +260,7 @@ fn main() {
     let mut done: [u32; 64] = [0; 64];
     let mut input = io::large_buffer();
     let mut output = [0u8; 16384];
-    let mut out = [0u8; 65600];
+    let mut out = [0u8; 65664];
     all(
         &mut input,
         &mut output,

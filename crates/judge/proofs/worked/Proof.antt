@@ -1,22 +1,28 @@
 -- `judge::worked` prints the line of what the definition gives back.
-use Prim.Native.Nat.{ℕ}
+use Prim.Native.Nat.{ℕ, _≤_, _<_}
+use native.Mathlib.Omega.{arith}
 use mathlib.Core.List.{List}
-use mathlib.Core.Path.{_≡_, subst}
+use mathlib.Core.Path.{_≡_, _∙_, subst}
+use lib.ListN.{length, take}
 use Rattle.run.specs.Answer as run
 use Rattle.solver.specs.Entries.{judgementOf}
 use Rattle.solver.specs.declared.Judgement.{Judgement}
 use Rattle.printer.specs.Lines.{judgeLine}
 use Rattle.printer.specs.Placed.{Placed}
+use Rattle.printer.proofs.Fitting.{judge-length, placed-whole}
 use Rattle.judge.specs.Printing.{lineOf}
 use borrow.Author.Needs.{needs}
 use Rattle.judge.proofs.worked.Statement.{statement}
 use Rattle.judge.proofs.worked.Tie as tie
 
--- What is printed of the number and the place is the line, where the judge gave back what the definition says.
+-- What is printed of the number and the place is the line, where the judge gave back what the definition says; and it is there whole.
 told :
-    {n p r at : ℕ} {d e : List ℕ} (k : Judgement) (j : run.Judgement) → judgementOf k ≡ j → (n ≡ judgementOf k .0) × (p ≡ judgementOf k .1) →
-    Placed d at (judgeLine n p) r e → Placed d at (lineOf j) r e
-told {n} {p} {r} {at} {d} {e} k j f a h = let same : judgeLine n p ≡ lineOf j = cc in subst (λ l. Placed d at l r e) same h
+    {n p r : ℕ} {d e : List ℕ} (k : Judgement) (j : run.Judgement) → judgementOf k ≡ j → (n ≡ judgementOf k .0) × (p ≡ judgementOf k .1) →
+    n < 256 → p < 18446744073709551616 → 33 ≤ length d →
+    Placed d 0 (judgeLine n p) r e → (take r e ≡ lineOf j) × Placed d 0 (lineOf j) r e
+told {n} {p} {r} {d} {e} k j f a x y m h =
+    let same : judgeLine n p ≡ lineOf j = cc in
+    (placed-whole h (omega (arith, judge-length n p x y, m)) ∙ same, subst (λ t. Placed d 0 t r e) same h)
 
 judge-requires : tie.Need-judge-requires
 judge-requires c κs = search needs
@@ -31,7 +37,8 @@ same-length : tie.Need-same-length
 same-length c = search needs
 
 returns : tie.Need-returns
-returns c = told (c .before .before .before .before .before .judge .result) _ (c .before .before .before .before .before .judge .ensures) (c .before .before .before .before .of-judgement .ensures) (c .before .before .judge-line .ensures)
+returns c =
+    told (c .before .before .before .before .before .judge .result) _ (c .before .before .before .before .before .judge .ensures) (c .before .before .before .before .of-judgement .ensures) (omega (arith, c .before .before .before .before .of-judgement .ok)) (omega (arith, c .before .before .before .before .of-judgement .ok)) (c .before .before .before .before .before .before .before .before .pre) (c .before .before .judge-line .ensures)
 
 pub worked-spec : {M : Type 1} → statement M
 worked-spec =

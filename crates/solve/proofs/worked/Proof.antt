@@ -1,22 +1,29 @@
 -- `solve::worked` prints the lines of what the definition gives back.
-use Prim.Native.Nat.{ℕ}
+use Prim.Native.Nat.{ℕ, _*_, _≤_, _<_}
+use native.Mathlib.Omega.{arith}
 use mathlib.Core.List.{List}
-use mathlib.Core.Path.{_≡_, subst}
+use mathlib.Core.Path.{_≡_, _∙_, subst}
+use lib.ListN.{length, take}
+use Rattle.field.specs.Field.{Bytes}
 use Rattle.run.specs.Answer as run
 use Rattle.solver.specs.Entries.{numberOf, placeOf, resultOf}
 use Rattle.solver.specs.declared.Verdict.{Verdict}
 use Rattle.printer.specs.Lines.{solverLines}
 use Rattle.printer.specs.Placed.{Placed}
+use Rattle.printer.proofs.Fitting.{solver-length, placed-whole}
 use Rattle.solve.specs.Printing.{linesOf}
 use borrow.Author.Needs.{needs}
 use Rattle.solve.proofs.worked.Statement.{statement}
 use Rattle.solve.proofs.worked.Tie as tie
 
--- What is printed of the number and the place is the lines, where the solver gave back what the definition says.
+-- What is printed of the number and the place is the lines, where the solver gave back what the definition says; and they are there whole.
 told :
-    {n p r at : ℕ} {o d e : List ℕ} (v : Verdict) (s : run.Result) → resultOf v o ≡ s → (n ≡ numberOf v) × (p ≡ placeOf v) →
-    Placed d at (solverLines n p o) r e → Placed d at (linesOf s) r e
-told {n} {p} {r} {at} {o} {d} {e} v s f a h = let same : solverLines n p o ≡ linesOf s = cc in subst (λ l. Placed d at l r e) same h
+    {n p r : ℕ} {o d e : List ℕ} (v : Verdict) (s : run.Result) → resultOf v o ≡ s → (n ≡ numberOf v) × (p ≡ placeOf v) →
+    n < 256 → p < 18446744073709551616 → Bytes o → 4 * length o ≤ length d → 33 ≤ length d →
+    Placed d 0 (solverLines n p o) r e → (take r e ≡ linesOf s) × Placed d 0 (linesOf s) r e
+told {n} {p} {r} {o} {d} {e} v s f a x y z l m h =
+    let same : solverLines n p o ≡ linesOf s = cc in
+    (placed-whole h (omega (arith, solver-length n p o (length d) x y z l m)) ∙ same, subst (λ t. Placed d 0 t r e) same h)
 
 solve-requires : tie.Need-solve-requires
 solve-requires c κs = search needs
@@ -34,7 +41,8 @@ same-length-2 : tie.Need-same-length-2
 same-length-2 c = search needs
 
 returns : tie.Need-returns
-returns c = told (c .before .before .before .before .before .before .before .before .solve .result) _ (c .before .before .before .before .before .before .before .before .solve .ensures) (c .before .before .before .before .before .of-verdict .ensures) (c .before .before .solver-lines .ensures)
+returns c =
+    told (c .before .before .before .before .before .before .before .before .solve .result) _ (c .before .before .before .before .before .before .before .before .solve .ensures) (c .before .before .before .before .before .of-verdict .ensures) (omega (arith, c .before .before .before .before .before .of-verdict .ok)) (omega (arith, c .before .before .before .before .before .of-verdict .ok)) (λ i. c .before .before .before .before .before .before .slice-known3 .given i .fits) (omega (arith, c .before .before .before .before .before .before .before .before .solve .kept .1 .0, c .before .before .before .before .before .before .before .before .before .before .before .before .before .pre .0)) (c .before .before .before .before .before .before .before .before .before .before .before .before .before .pre .1) (c .before .before .solver-lines .ensures)
 
 pub worked-spec : {M : Type 1} → statement M
 worked-spec =

@@ -1,7 +1,10 @@
 -- `stream::worked` prints the block of the two definitions.
-use Prim.Native.Nat.{ℕ}
+use Prim.Native.Nat.{ℕ, _+_, _*_, _≤_}
+use native.Mathlib.Omega.{arith}
 use mathlib.Core.List.{List}
-use mathlib.Core.Path.{_≡_, subst}
+use mathlib.Core.Path.{_≡_, _∙_, subst}
+use lib.ListN.{length, take}
+use Rattle.field.specs.Field.{Bytes}
 use Rattle.run.specs.Answer as run
 use Rattle.solver.specs.Entries.{numberOf, placeOf, resultOf, judgementOf}
 use Rattle.solver.specs.declared.Verdict.{Verdict}
@@ -9,17 +12,20 @@ use Rattle.solver.specs.declared.Judgement.{Judgement}
 use Rattle.printer.specs.Lines.{problemLines}
 use Rattle.printer.specs.Placed.{Placed}
 use Rattle.stream.specs.Block.{block, linesOf}
+use Rattle.stream.proofs.Fitting.{Small, lines-whole}
 use borrow.Author.Needs.{needs}
 use Rattle.stream.proofs.worked.Statement.{statement}
 use Rattle.stream.proofs.worked.Tie as tie
 
--- What is printed of the two numbers and places is the block, where solver and judge gave back what the definitions say.
+-- What is printed of the two numbers and places is the block, where solver and judge gave back what the definitions say; and it is there whole.
 told :
-    {n p m q r at : ℕ} {o d e : List ℕ} (v : Verdict) (k : Judgement) (s : run.Result) (j : run.Judgement) →
+    {n p m q r : ℕ} {o d e : List ℕ} (v : Verdict) (k : Judgement) (s : run.Result) (j : run.Judgement) →
     resultOf v o ≡ s → judgementOf k ≡ j → (n ≡ numberOf v) × (p ≡ placeOf v) → (m ≡ judgementOf k .0) × (q ≡ judgementOf k .1) →
-    Placed d at (problemLines n p o m q) r e → Placed d at (linesOf s j) r e
-told {n} {p} {m} {q} {r} {at} {o} {d} {e} v k s j f g a b h =
-    let same : problemLines n p o m q ≡ linesOf s j = cc in subst (λ l. Placed d at l r e) same h
+    Small n p → Small m q → Bytes o → 4 * length o + 67 ≤ length d →
+    Placed d 0 (problemLines n p o m q) r e → (take r e ≡ linesOf s j) × Placed d 0 (linesOf s j) r e
+told {n} {p} {m} {q} {r} {o} {d} {e} v k s j f g a b x y z l h =
+    let same : problemLines n p o m q ≡ linesOf s j = cc in
+    (lines-whole n p o m q x y z l h ∙ same, subst (λ t. Placed d 0 t r e) same h)
 
 solve-with-requires : tie.Need-solve-with-requires
 solve-with-requires c κs = search needs
@@ -44,7 +50,8 @@ same-length-2 c = search needs
 
 returns : tie.Need-returns
 unfolding block
-returns c = told (c .before .before .before .before .before .before .before .before .before .before .before .before .before .before .before .before .before .before .before .before .before .before .before .before .before .before .before .before .before .before .solve-with .result) (c .before .before .before .before .before .before .before .judge-with .result) _ _ (c .before .before .before .before .before .before .before .before .before .before .before .before .before .before .before .before .before .before .before .before .before .before .before .before .before .before .before .before .before .before .solve-with .ensures) (c .before .before .before .before .before .before .before .judge-with .ensures) (c .before .before .before .before .before .before .of-verdict .ensures) (c .before .before .before .before .before .of-judgement .ensures) (c .before .before .problem-lines .ensures)
+returns c =
+    told (c .before .before .before .before .before .before .before .before .before .before .before .before .before .before .before .before .before .before .before .before .before .before .before .before .before .before .before .before .before .before .solve-with .result) (c .before .before .before .before .before .before .before .judge-with .result) _ _ (c .before .before .before .before .before .before .before .before .before .before .before .before .before .before .before .before .before .before .before .before .before .before .before .before .before .before .before .before .before .before .solve-with .ensures) (c .before .before .before .before .before .before .before .judge-with .ensures) (c .before .before .before .before .before .before .of-verdict .ensures) (c .before .before .before .before .before .of-judgement .ensures) (omega (arith, c .before .before .before .before .before .before .of-verdict .ok), omega (arith, c .before .before .before .before .before .before .of-verdict .ok)) (omega (arith, c .before .before .before .before .before .of-judgement .ok), omega (arith, c .before .before .before .before .before .of-judgement .ok)) (λ i. c .before .before .before .before .before .before .before .before .before .before .before .before .before .before .before .before .before .before .before .before .before .before .before .before .before .before .before .before .slice-known3 .given i .fits) (omega (arith, c .before .before .before .before .before .before .before .before .before .before .before .before .before .before .before .before .before .before .before .before .before .before .before .before .before .before .before .before .before .before .solve-with .kept .1 .0, c .before .before .before .before .before .before .before .before .before .before .before .before .before .before .before .before .before .before .before .before .before .before .before .before .before .before .before .before .before .before .before .before .before .before .before .before .before .before .before .before .before .before .before .before .before .before .before .before .before .before .before .before .before .before .before .pre)) (c .before .before .problem-lines .ensures)
 
 pub worked-spec : {M : Type 1} → statement M
 worked-spec =
