@@ -4,9 +4,9 @@ use mathlib.Core.Path.{_≡_, _∙_, ap, subst, sym}
 use mathlib.Core.List.{List}
 use Rattle.field.specs.Field.{Bytes}
 use Rattle.run.specs.Answer as run
-use Rattle.solver.specs.declared.Verdict.{Verdict}
-use Rattle.solver.specs.declared.Judgement.{Judgement}
-use Rattle.solver.specs.Entries.{numberOf, placeOf, resultOf, judgementOf, packed}
+use Rattle.numbers.specs.declared.Verdict.{Verdict}
+use Rattle.numbers.specs.declared.Judgement.{Judgement}
+use Rattle.numbers.specs.Verdicts.{numberOf, placeOf, resultOf, judgementOf, packed}
 use Rattle.cheesetrestle.proofs.Places.{solver-place, judge-place}
 
 module _ (input output after : List ℕ) (v : Verdict) (h : resultOf v after ≡ run.solve input output) where

@@ -3,7 +3,7 @@
 ghost use mathlib.Core.Path.{_≡_};
 ghost use Prim.Native.Nat.{_≤_};
 ghost use Rattle.run.specs.Answer as run;
-ghost use Rattle.solver.specs.Entries.{packed};
+ghost use Rattle.numbers.specs.Verdicts.{packed};
 
 // Number and place in one word.
 fn joined(number: u8, place: usize) -> u64

@@ -1,8 +1,38 @@
-// What the solver and the judge give back, as the two numbers that are printed: document 01's number and place for each case.
+// What the solver and the judge give back: a verdict and a judgement, and document 01's number and place for each case, as the two numbers that are printed.
 ghost use mathlib.Core.Path.{_≡_};
-ghost use Rattle.solver.specs.Entries.{numberOf, placeOf, judgementOf};
-use solver::Judgement;
-use solver::Verdict;
+ghost use Rattle.numbers.specs.Verdicts.{numberOf, placeOf, judgementOf};
+
+// What the solver gives back: document 01's numbers 0 to 13, each with its place where it has one.
+pub enum Verdict {
+    Accepted(usize),
+    TooLong,
+    NoHead,
+    Cut(usize),
+    UnknownTag(usize),
+    WrongLength(usize),
+    TooMany(usize),
+    NotThere(usize),
+    Limit(u8),
+    Clash(u8),
+    Inside(u8),
+    Protected(u8),
+    NotFresh,
+    TooShort(usize),
+}
+
+// What the judge gives back.
+pub enum Judgement {
+    Holds,
+    TooLong,
+    NoHead,
+    Cut(usize),
+    UnknownTag(usize),
+    WrongLength(usize),
+    TooMany(usize),
+    NotThere(usize),
+    Limit(u8),
+    DoesNotHold,
+}
 
 pub struct Given {
     pub number: u8,

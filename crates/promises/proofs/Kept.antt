@@ -20,9 +20,9 @@ use Rattle.solutions.specs.Promises.{Accepts, SameDemands, Agree}
 use Rattle.solutions.proofs.Corollaries.{ProperVerdict, proper, agree, Tells, solve-tells}
 use Rattle.solutions.proofs.Judge.{judge-exactly, judge-holds}
 use Rattle.figure3.proofs.Account.{verdict-is-figure3}
-use Rattle.solver.specs.declared.Verdict as code
-use Rattle.solver.specs.declared.Judgement.{Judgement}
-use Rattle.solver.specs.Entries.{numberOf, placeOf, resultOf, judgementOf}
+use Rattle.numbers.specs.declared.Verdict as code
+use Rattle.numbers.specs.declared.Judgement.{Judgement}
+use Rattle.numbers.specs.Verdicts.{numberOf, placeOf, resultOf, judgementOf}
 use Rattle.promises.specs.Demands.{First, FirstJudged, Second, SecondJudged, Third, ThirdTwice}
 
 -- ---- what the definition leaves in the output

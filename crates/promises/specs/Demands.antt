@@ -11,9 +11,9 @@ use Rattle.run.specs.Run.{runOf}
 use Rattle.run.specs.Answer.{verdictOf, given}
 use Rattle.solutions.specs.Promises.{Derives, SameDemands, Agree, Accepts, Refuses}
 use Rattle.figure3.specs.Account.{Account}
-use Rattle.solver.specs.declared.Verdict.{Verdict}
-use Rattle.solver.specs.declared.Judgement.{Judgement}
-use Rattle.solver.specs.Entries.{numberOf, placeOf, resultOf, judgementOf}
+use Rattle.numbers.specs.declared.Verdict.{Verdict}
+use Rattle.numbers.specs.declared.Judgement.{Judgement}
+use Rattle.numbers.specs.Verdicts.{numberOf, placeOf, resultOf, judgementOf}
 
 -- ---- 1
 

@@ -29,9 +29,9 @@ use Rattle.machine.specs.Run as machine
 use Rattle.machine.specs.declared.verdict.Ran.{Ran}
 use Rattle.machine.specs.declared.verdict.Verdict as told
 use Rattle.machine.specs.declared.verdict.Verdict.the-variants.{Accepted, Limit, Clash, Inside, Protection}
-use Rattle.solver.specs.Ending.{Begun, Ready, Ended}
+use Rattle.ending.specs.Ended.{Begun, Ready, Ended}
 use Rattle.solver.proofs.Reading.{told-read}
-use Rattle.solver.proofs.Resolving.{all-atoms, all-variables, all-nodes, all-equations, whole-limit, all-protected-variables}
+use Rattle.ending.proofs.Resolving.{all-atoms, all-variables, all-nodes, all-equations, whole-limit, all-protected-variables}
 use Rattle.solver.proofs.Running.{solver-run, judge-run, all-protected}
 
 -- ---- the reader's answer is a problem

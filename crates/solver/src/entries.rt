@@ -1,11 +1,11 @@
 // The entries of the solver and of the judge. The inner ones take the work tables, with any content; the plain ones make them.
 ghost use mathlib.Core.Path.{_≡_};
 ghost use Rattle.run.specs.Answer as run;
-ghost use Rattle.solver.specs.Entries.{resultOf, judgementOf};
-use crate::Judgement;
-use crate::Verdict;
+ghost use Rattle.numbers.specs.Verdicts.{resultOf, judgementOf};
 use crate::judging;
 use crate::solving;
+use numbers::Judgement;
+use numbers::Verdict;
 use problem::Reading;
 
 // The solver, over lent work tables with any content.

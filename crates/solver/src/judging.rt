@@ -3,10 +3,9 @@ ghost use mathlib.Core.Path.{_≡_};
 ghost use Rattle.problem.specs.Held.{problemOf};
 ghost use Rattle.run.specs.Answer.{judgedRun};
 ghost use Rattle.run.specs.Answer as run;
-ghost use Rattle.solver.specs.Entries.{judgementOf};
-ghost use Rattle.solver.specs.Ending.{Begun};
-use crate::Judgement;
-use crate::ending;
+ghost use Rattle.numbers.specs.Verdicts.{judgementOf};
+ghost use Rattle.ending.specs.Ended.{Begun};
+use numbers::Judgement;
 use problem::Counts;
 use sets::VariableSet;
 

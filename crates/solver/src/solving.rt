@@ -3,10 +3,9 @@ ghost use mathlib.Core.Path.{_≡_};
 ghost use Rattle.problem.specs.Held.{problemOf};
 ghost use Rattle.run.specs.Run.{runOf};
 ghost use Rattle.run.specs.Answer.{verdictOf, given};
-ghost use Rattle.solver.specs.Entries.{resultOf};
-ghost use Rattle.solver.specs.Ending.{Begun};
-use crate::Verdict;
-use crate::ending;
+ghost use Rattle.numbers.specs.Verdicts.{resultOf};
+ghost use Rattle.ending.specs.Ended.{Begun};
+use numbers::Verdict;
 use problem::Counts;
 
 // What the solver gives back for a problem that was read.

@@ -5,8 +5,8 @@ use mathlib.Core.List.{List}
 use mathlib.Core.Path.{_≡_, _∙_, subst}
 use lib.ListN.{length, take}
 use Rattle.run.specs.Answer as run
-use Rattle.solver.specs.Entries.{judgementOf}
-use Rattle.solver.specs.declared.Judgement.{Judgement}
+use Rattle.numbers.specs.Verdicts.{judgementOf}
+use Rattle.numbers.specs.declared.Judgement.{Judgement}
 use Rattle.printer.specs.Lines.{judgeLine}
 use Rattle.printer.specs.Placed.{Placed}
 use Rattle.printer.proofs.Fitting.{judge-length, placed-whole}

@@ -6,8 +6,8 @@ use mathlib.Core.Path.{_≡_, _∙_, subst}
 use lib.ListN.{length, take}
 use Rattle.field.specs.Field.{Bytes}
 use Rattle.run.specs.Answer as run
-use Rattle.solver.specs.Entries.{numberOf, placeOf, resultOf}
-use Rattle.solver.specs.declared.Verdict.{Verdict}
+use Rattle.numbers.specs.Verdicts.{numberOf, placeOf, resultOf}
+use Rattle.numbers.specs.declared.Verdict.{Verdict}
 use Rattle.printer.specs.Lines.{solverLines}
 use Rattle.printer.specs.Placed.{Placed}
 use Rattle.printer.proofs.Fitting.{solver-length, placed-whole}

@@ -6,9 +6,9 @@ use mathlib.Core.Path.{_≡_, _∙_, subst}
 use lib.ListN.{length, take}
 use Rattle.field.specs.Field.{Bytes}
 use Rattle.run.specs.Answer as run
-use Rattle.solver.specs.Entries.{numberOf, placeOf, resultOf, judgementOf}
-use Rattle.solver.specs.declared.Verdict.{Verdict}
-use Rattle.solver.specs.declared.Judgement.{Judgement}
+use Rattle.numbers.specs.Verdicts.{numberOf, placeOf, resultOf, judgementOf}
+use Rattle.numbers.specs.declared.Verdict.{Verdict}
+use Rattle.numbers.specs.declared.Judgement.{Judgement}
 use Rattle.printer.specs.Lines.{problemLines}
 use Rattle.printer.specs.Placed.{Placed}
 use Rattle.stream.specs.Block.{block, linesOf}

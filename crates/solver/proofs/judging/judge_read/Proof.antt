@@ -6,7 +6,7 @@ use Rattle.problem.specs.Held.{problemOf}
 use Rattle.run.specs.Run.{clash, inside, protection}
 use Rattle.run.specs.Answer as run
 use Rattle.machine.specs.Run.{endOf}
-use Rattle.solver.proofs.Resolving.{all-nodes}
+use Rattle.ending.proofs.Resolving.{all-nodes}
 use Rattle.solver.proofs.Running.{judged-limit, judged-refused}
 use Rattle.solver.proofs.Beginning.{ready, run-ready, judge-end, end-by, ended, ended-run}
 use Rattle.solver.proofs.judging.judge_read.Statement.{statement}

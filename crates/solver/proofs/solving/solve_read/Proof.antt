@@ -4,7 +4,7 @@ use borrow.Author.Needs.{needs}
 use mathlib.Core.Path.{_≡_, sym, _∙_, ap}
 use Rattle.problem.specs.Held.{problemOf}
 use Rattle.run.specs.Answer.{verdictOf, given}
-use Rattle.solver.proofs.Resolving.{all-nodes}
+use Rattle.ending.proofs.Resolving.{all-nodes}
 use Rattle.solver.proofs.Running.{solved-limit, solved-clash, solved-inside, solved-protection}
 use Rattle.solver.proofs.Beginning.{ready, run-ready, solver-end, end-by, ended, ended-run}
 use Rattle.solver.proofs.solving.solve_read.Statement.{statement}

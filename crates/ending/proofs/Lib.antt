@@ -1,0 +1,4 @@
+pub mod Concluding
+pub mod Resolving
+pub mod Covering
+pub mod Deciding

@@ -1,0 +1,45 @@
+-- `resolve_judged` meets its contract.
+use borrow.Author.Needs.{needs}
+use Rattle.problem.specs.Held.{problemOf}
+use Rattle.ending.proofs.Resolving.{all-atoms, all-variables, all-nodes, all-freshness, bound-values, judge-small, judge-outcome}
+use Rattle.ending.proofs.resolve_judged.Statement.{statement}
+use Rattle.ending.proofs.resolve_judged.Tie as tie
+
+words-requires : tie.Need-words-requires
+words-requires c κs = search needs
+
+words-requires-2 : tie.Need-words-requires-2
+words-requires-2 c κs = search needs
+
+cast-add-freshness : tie.Need-cast-add-freshness
+cast-add-freshness c = search needs
+
+add-freshness-requires : tie.Need-add-freshness-requires
+add-freshness-requires c κs = (record { readable = c .before .before .before .before .before .before .before .before .before .pre .0 .readable; stands = c .before .before .before .before .before .before .before .before .before .pre .0 .freshness }, all-freshness (c .before .before .before .before .before .before .before .before .before .args .c) (problemOf (c .before .before .before .before .before .before .before .before .before .args .s .now)) (c .before .before .before .before .before .before .before .before .before .pre .0 .counts))
+
+cast-resolve : tie.Need-cast-resolve
+cast-resolve c = search needs
+
+cast-resolve-2 : tie.Need-cast-resolve-2
+cast-resolve-2 c = search needs
+
+cast-resolve-3 : tie.Need-cast-resolve-3
+cast-resolve-3 c = search needs
+
+resolve-requires : tie.Need-resolve-requires
+resolve-requires c κs = (
+  (record { readable = c .before .before .before .before .before .before .before .before .before .before .before .before .before .before .before .before .before .pre .0 .readable; nodes = c .before .before .before .before .before .before .before .before .before .before .before .before .before .before .before .before .before .pre .0 .nodes }, bound-values (problemOf (c .before .before .before .before .before .before .before .before .before .before .before .before .before .before .before .before .before .args .s .now)) (c .before .before .before .before .before .before .before .before .before .before .before .before .before .before .before .before .before .pre .0 .readable) (c .before .before .before .before .before .before .before .before .before .before .before .before .before .before .before .before .before .pre .1 .3)),
+  (
+    (all-nodes (c .before .before .before .before .before .before .before .before .before .before .before .before .before .before .before .before .before .args .c) (problemOf (c .before .before .before .before .before .before .before .before .before .before .before .before .before .before .before .before .before .args .s .now)) (c .before .before .before .before .before .before .before .before .before .before .before .before .before .before .before .before .before .pre .0 .counts), all-atoms (c .before .before .before .before .before .before .before .before .before .before .before .before .before .before .before .before .before .args .c) (problemOf (c .before .before .before .before .before .before .before .before .before .before .before .before .before .before .before .before .before .args .s .now)) (c .before .before .before .before .before .before .before .before .before .before .before .before .before .before .before .before .before .pre .0 .counts), all-variables (c .before .before .before .before .before .before .before .before .before .before .before .before .before .before .before .before .before .args .c) (problemOf (c .before .before .before .before .before .before .before .before .before .before .before .before .before .before .before .before .before .args .s .now)) (c .before .before .before .before .before .before .before .before .before .before .before .before .before .before .before .before .before .pre .0 .counts)),
+    judge-small (problemOf (c .before .before .before .before .before .before .before .before .before .before .before .before .before .before .before .before .before .args .s .now)) (c .before .before .before .before .before .before .before .before .before .before .before .before .before .before .before .before .before .pre .0 .readable) (c .before .before .before .before .before .before .before .before .before .before .before .before .before .before .before .before .before .pre .1 .3) (c .before .before .before .before .before .before .before .before .before .before .before .before .before .words .ensures) (c .before .before .before .before .before .before .before .before .before .before .words2 .ensures) _ (c .before .before .before .before .before .before .before .add-freshness .ensures),
+  ),
+)
+
+returns : tie.Need-returns
+returns c =
+    λ order count steps e.
+    judge-outcome (problemOf (c .before .before .before .before .before .before .before .before .before .before .before .before .before .before .before .before .before .before .args .s .now)) (c .before .before .before .before .before .before .before .before .before .before .before .before .before .before .before .before .before .before .pre .0 .readable) e (c .before .before .before .before .before .before .before .before .before .before .before .before .before .before .words .ensures) (c .before .before .before .before .before .before .before .before .before .before .before .words2 .ensures) _ (c .before .before .before .before .before .before .before .before .add-freshness .ensures) _ _ (c .resolve .result) (c .resolve .ensures)
+
+pub resolve-judged-spec : {M : Type 1} → statement M
+resolve-judged-spec =
+    tie.close (tie.spec words-requires words-requires-2 cast-add-freshness add-freshness-requires cast-resolve cast-resolve-2 cast-resolve-3 resolve-requires returns)
