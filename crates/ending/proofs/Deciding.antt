@@ -3,10 +3,8 @@ use Prim.Native.Nat.{ℕ, _-_, _<_, _≤_}
 use mathlib.Core.Path.{_≡_, refl, sym, _∙_, ap}
 use mathlib.Core.Bool.{Bool, true, false, not, _&&_, cond}
 use mathlib.Core.List.{List, _++_}
-use lib.ListN.{length, getD}
-use lib.Dec.{leb}
+use lib.ListN.{getD}
 use Rattle.sets.specs.Bits.{member}
-use Rattle.sets.proofs.Bits.{by-test}
 use Rattle.problem.specs.Problem.{Problem}
 use Rattle.problem.specs.Readable.{Readable}
 use Rattle.problem.specs.Held.{assumes}
@@ -14,6 +12,7 @@ use Rattle.run.specs.Meaning.{Binding, Fact}
 use Rattle.run.specs.Run.{finished}
 use Rattle.run.specs.Answer.{askedFresh, askedAssumed, askedRaised, facts, answerBytes, verdictOf, Result, written, given}
 use Rattle.run.specs.Answer as run
+use Rattle.run.proofs.Written.{written-short}
 use Rattle.bindings.specs.Bindings.{tables, bindingsOf}
 use Rattle.asked.proofs.Asks.{Words}
 use Rattle.answer.specs.Facts.{factsIn}
@@ -33,15 +32,11 @@ given-accepted : (g : Given) (d : List ℕ) (x : Result) → written.resultOf g 
 unfolding written.resultOf
 given-accepted g d x e q = ap (λ (n : ℕ). record { number = n; place = g .place; output = d }) (sym q) ∙ e
 
-thirteen : (a d : List ℕ) → (written a d .number ≡ 0 → ⊥) → written a d .number ≡ 13
-unfolding written
-thirteen a d n = by-test (leb (length a) (length d)) (λ e. absurd (n (rw e))) (λ e. rw e)
-
 given-short : (g : Given) (a d e : List ℕ) → written.resultOf g e ≡ written a d → (g .number ≡ 0 → ⊥) → resultOf (TooShort (g .place)) e ≡ written a d
 unfolding written.resultOf
 given-short g a d e q n =
     let k : g .number ≡ written a d .number = ap (λ (x : Result). x .number) q in
-    let t : g .number ≡ 13 = k ∙ thirteen a d (λ z. n (k ∙ z)) in
+    let t : g .number ≡ 13 = k ∙ written-short a d (λ z. n (k ∙ z)) in
     ap (λ (x : ℕ). record { number = x; place = g .place; output = e }) (sym t) ∙ q
 
 module _ (p : Problem) (r : Readable p) {order roots images : List ℕ} {count bound : ℕ} {askedNodes askedVariables : List ℕ} {steps : ℕ}

@@ -3,6 +3,7 @@ use Prim.Native.Nat.{ℕ, suc, _+_, _-_, _^_, _≤_, _<_}
 use native.Mathlib.Omega.{arith}
 use native.Mathlib.Nat.{zero-add}
 use native.Mathlib.Numerals.{add-one}
+use borrow.Author.Tests.{not-false}
 use mathlib.Core.Path.{_≡_, refl, sym, _∙_, ap}
 use mathlib.Core.Logic.{_≢_}
 use mathlib.Core.Bool.{Bool, true, false, not, cond, true≢false}
@@ -151,14 +152,6 @@ pub joined-more : (rows : List ℕ) (all row more i : ℕ) → ((k : ℕ) → k 
 joined-more rows all row more i h e q k l a m =
     rw (q, e)
     (by-eq k i (λ z. member-union-right all (getD rows i 0) a (ap (λ (n : ℕ). member (getD rows n 0) a) (sym z) ∙ m)) (λ d. member-union-left all (getD rows i 0) a (h k (omega arith) a m)))
-
-pub not-true : (b : Bool) → not b ≡ true → b ≡ false
-not-true true e = absurd (true≢false (sym e))
-not-true false e = refl
-
-not-false : (b : Bool) → not b ≡ false → b ≡ true
-not-false true e = refl
-not-false false e = absurd (true≢false e)
 
 pub joined-none : (rows : List ℕ) (all : ℕ) (empty : Bool) (i : ℕ) → ((k : ℕ) → k < i → (a : ℕ) → member (getD rows k 0) a ≡ true → member all a ≡ true) → empty ≡ eqb all 0 → not empty ≡ false
     → (k : ℕ) → k < i → (a : ℕ) → member (getD rows k 0) a ≡ false

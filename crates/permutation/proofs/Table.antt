@@ -10,7 +10,7 @@ use mathlib.Core.List.{List, [], _∷_, _++_, map, List·Memᴰ, List·Memᴰ·h
 use lib.ListN.{length, getD, length-map, List·getD-map, List·getD-eq-default}
 use lib.Seq.{ext-getD}
 use lib.Dec.{eqb}
-use borrow.Author.Tests.{eq-eqb, ne-eqb, eqb-false}
+use borrow.Author.Tests.{eq-eqb, ne-eqb, eqb-false, not-true}
 use Rattle.permutation.specs.Swaps.{Swaps, swapped, act, inverse, Disagree, Alike, Within}
 use Rattle.permutation.specs.Table.{Table, image, from, upto, tabulate, identity, after, placeFrom, place, inverted, ofSwaps, swappedAfter, kept, disagreement, Permutes, Unwound, before, unwind, cycles, swapsOf}
 use Rattle.permutation.proofs.Swaps.{by-eq, swapped-right, swapped-other, swapped-twice, swapped-within, act-append, act-inverse, act-injective, within, outside, within-append, within-inverse}
@@ -397,10 +397,6 @@ module _ (f : ℕ → Bool) (a b : ℕ) (l : List ℕ) (later : List·Memᴰ a (
 mem-kept : (f : ℕ → Bool) (l : List ℕ) (a : ℕ) → List·Memᴰ a (kept f l) ↔ (List·Memᴰ a l × (f a ≡ true))
 mem-kept f [] a = (λ k. absurd (elim k [ ]), λ k. absurd (elim (k .0) [ ]))
 mem-kept f (b ∷ l) a = (kept-inside f a b l (mem-kept f l a) (f b) refl, λ k. inside-kept f a b l (mem-kept f l a) (f b) refl (k .0) (k .1))
-
-not-true : (c : Bool) → not c ≡ true → c ≡ false
-not-true true e = absurd (true≢false (sym e))
-not-true false e = refl
 
 pub mem-disagreement : (P Q : Table) (a : ℕ) → List·Memᴰ a (disagreement P Q) ↔ ((a < length P) × (image P a ≢ image Q a))
 unfolding disagreement

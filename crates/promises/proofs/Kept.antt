@@ -16,6 +16,7 @@ use Rattle.problem.proofs.Readable.{readable}
 use Rattle.problem.proofs.Numbers.{OneToSeven, reading-number}
 use Rattle.run.specs.Run.{runOf}
 use Rattle.run.specs.Answer.{Verdict, accepted, refusal, answerBytes, verdictOf, verdictRead, Result, written, given, solve, judgementRead, judge}
+use Rattle.run.proofs.Written.{written-fits}
 use Rattle.solutions.specs.Promises.{Accepts, SameDemands, Agree}
 use Rattle.solutions.proofs.Corollaries.{ProperVerdict, proper, agree, Tells, solve-tells}
 use Rattle.solutions.proofs.Judge.{judge-exactly, judge-holds}
@@ -104,17 +105,12 @@ module _ (input : List ℕ) (j : Judgement) (b : Bytes input) (contract : judgem
 abbrev Zero : Verdict → List ℕ → Type 0
 Zero v output = given v output .number ≡ 0
 
-written-number : (answer output : List ℕ) (b : Bool) → leb (length answer) (length output) ≡ b → written answer output .number ≢ 13 → written answer output .number ≡ 0
-unfolding written
-written-number answer output true e h = rw e refl
-written-number answer output false e h = absurd (h (rw e refl))
-
 module _ (p q : Problem) (d e : List ℕ) where
   both : (v w : Verdict) → Agree p q v w → ProperVerdict p v → ProperVerdict q w
       → given v d .number ≢ 8 → given w e .number ≢ 8 → given v d .number ≢ 13 → given w e .number ≢ 13 → Zero v d ↔ Zero w e
   unfolding given
   both (accepted k bs fs) (accepted l cs gs) a x y m n s t =
-      (λ z. written-number (answerBytes l cs gs) e (leb (length (answerBytes l cs gs)) (length e)) refl t, λ z. written-number (answerBytes k bs fs) d (leb (length (answerBytes k bs fs)) (length d)) refl s)
+      (λ z. written-fits (answerBytes l cs gs) e t, λ z. written-fits (answerBytes k bs fs) d s)
   both (accepted k bs fs) (refusal i o) a x y m n s t = absurd (n a)
   both (refusal i o) (accepted l cs gs) a x y m n s t = absurd (m a)
   both (refusal i o) (refusal j u) a x y m n s t = (λ z. absurd (let (f, g) = x in omega arith), λ z. absurd (let (f, g) = y in omega arith))

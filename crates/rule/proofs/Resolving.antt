@@ -63,14 +63,6 @@ pub length-whole : (s : List ℕ) (A : ℕ) (P : Table) (n : ℕ) → length (wh
 unfolding wholeOf
 length-whole s A P n = length-after P (ofSwaps A (swapsOf (formNow s n))) ∙ length-ofSwaps A (swapsOf (formNow s n))
 
-pub not-true : (b : Bool) → not b ≡ true → b ≡ false
-not-true true e = sym e
-not-true false e = refl
-
-pub not-false : (b : Bool) → not b ≡ false → b ≡ true
-not-false true e = refl
-not-false false e = sym e
-
 -- ---- what is found of a form
 
 pub valued-suspension : (roots images : List ℕ) (bound X : ℕ) (r : Found) → LookedUp roots images bound X r → Valued roots images bound (Suspension (record { 0 = X })) r

@@ -7,3 +7,4 @@ pub mod Bindings
 pub mod Questions
 pub mod States
 pub mod Facts
+pub mod Written

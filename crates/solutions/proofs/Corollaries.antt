@@ -7,8 +7,6 @@ use mathlib.Core.Logic.{_↔_, _⊎_, inl, inr}
 use mathlib.Core.Bool.{Bool, true, false}
 use mathlib.Core.List.{List}
 use mathlib.Core.Option.{Option, none, some}
-use lib.ListN.{length}
-use lib.Dec.{leb}
 use Rattle.permutation.proofs.Swaps.{by-eq}
 use Rattle.field.specs.Field.{Bytes}
 use Rattle.nominal.specs.Tree.{Substitution}
@@ -24,6 +22,7 @@ use Rattle.run.specs.Run.{Refusal, clash, inside, protection, End, limit, refus
 use Rattle.run.specs.Answer.{resolvedAll, facts, answerBytes, Verdict, accepted, refusal, numberOf, concluded, verdictOf, verdictRead, Result, written, given as result, solve}
 use Rattle.run.proofs.Questions.{Wherever, NamedFact}
 use Rattle.run.proofs.Facts.{every-facts}
+use Rattle.run.proofs.Written.{written-number}
 use Rattle.run.proofs.Bindings.{Meant, meant-idempotent, meant-only}
 use Rattle.run.proofs.States.{groundWith, AtEnd}
 use Rattle.solutions.specs.Promises.{asked, IsProtected, allowance, answerOf, Unsolvable, Promised, Proper, SameDemands, Agree, Accepts, Refuses}
@@ -107,11 +106,6 @@ module _ (p q : Problem) (s : SameDemands p q) where
 abbrev pub Tells : List ℕ → List ℕ → Result → Type 0
 Tells input output r = ((r .number ≡ 0) ⊎ (r .number ≡ 13) → Accepts input output r) × (9 ≤ r .number → r .number ≤ 12 → Refuses input)
 
-by-room : (answer output : List ℕ) (b : Bool) → leb (length answer) (length output) ≡ b → (written answer output .number ≡ 0) ⊎ (written answer output .number ≡ 13)
-unfolding written
-by-room answer output true e = inl (rw e)
-by-room answer output false e = inr (rw e)
-
 neither : (n : ℕ) → (n ≡ 0) ⊎ (n ≡ 13) → 8 ≤ n → n ≤ 12 → ⊥
 neither n (inl e) h k = omega arith
 neither n (inr e) h k = omega arith
@@ -126,7 +120,7 @@ module _ (input output : List ℕ) where
   tells-verdict p e (accepted steps bs fs) h a = (
     λ n. record { problem = p; steps = steps; bindings = bs; facts = fs; reads = e; writes = refl; answers = h; proper = a },
     λ l k. absurd (neither (written (answerBytes steps bs fs) output .number)
-        (by-room (answerBytes steps bs fs) output (leb (length (answerBytes steps bs fs)) (length output)) refl) (omega arith) k),
+        (written-number (answerBytes steps bs fs) output) (omega arith) k),
   )
   tells-verdict p e (refusal n o) h a = (λ m. absurd (neither n m (a .0) (a .1)), λ l k. record { problem = p; reads = e; unsolvable = h l k })
 

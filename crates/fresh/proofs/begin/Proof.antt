@@ -1,9 +1,9 @@
 -- `begin` meets its contract: where nothing is demanded of a node, nothing has to be visited.
 use native.Mathlib.Omega.{arith}
 use borrow.Author.Needs.{needs}
+use borrow.Author.Tests.{not-true}
 use mathlib.Core.Path.{_≡_, sym, _∙_, ap}
 use Rattle.problem.specs.Held.{problemOf}
-use Rattle.fresh.proofs.Sent.{not-true}
 use Rattle.fresh.proofs.Closing.{begun-none}
 use Rattle.fresh.proofs.begin.Statement.{statement}
 use Rattle.fresh.proofs.begin.Tie as tie

@@ -1,12 +1,12 @@
 -- `clashing` meets its contract: where nothing is marked, no node is an atom of its own set.
 use native.Mathlib.Omega.{arith}
 use borrow.Author.Needs.{needs}
+use borrow.Author.Tests.{not-true}
 use mathlib.Core.Path.{_≡_, sym, _∙_, ap}
 use mathlib.Core.Bool.{true≢false}
 use lib.ListN.{getD}
 use Rattle.problem.specs.Problem.{formAt}
 use Rattle.problem.specs.Held.{problemOf}
-use Rattle.fresh.proofs.Sent.{not-true}
 use Rattle.fresh.proofs.Closing.{clash-unmarked}
 use Rattle.fresh.proofs.clashing.Statement.{statement}
 use Rattle.fresh.proofs.clashing.Tie as tie

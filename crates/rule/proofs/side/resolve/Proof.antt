@@ -3,13 +3,14 @@
 use Prim.Native.Nat.{_≤_, _<_}
 use native.Mathlib.Omega.{arith}
 use borrow.Author.Needs.{needs}
+use borrow.Author.Tests.{not-true, not-false}
 use mathlib.Core.Path.{_≡_, refl, sym, _∙_}
 use mathlib.Core.Bool.{true, false}
 use lib.ListN.{length}
 use Rattle.problem.specs.Held.{problemOf}
 use Rattle.problem.specs.Look.{formNow}
 use Rattle.rule.specs.Side.{sideAt}
-use Rattle.rule.proofs.Resolving.{Kept, not-true, not-false, suspended, finish-none, finish-free, kept-more}
+use Rattle.rule.proofs.Resolving.{Kept, suspended, finish-none, finish-free, kept-more}
 use Rattle.rule.proofs.side.resolve.Statement.{statement}
 use Rattle.rule.proofs.side.resolve.Tie as tie
 

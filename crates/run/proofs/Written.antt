@@ -1,0 +1,31 @@
+-- What writing an answer gives back: 0, or 13 where the lent output is too short for it.
+use Prim.Native.Nat.{ℕ}
+use mathlib.Core.Path.{_≡_, refl}
+use mathlib.Core.Logic.{_≢_, _⊎_, inl, inr}
+use mathlib.Core.Bool.{Bool, true, false}
+use mathlib.Core.List.{List}
+use lib.ListN.{length}
+use lib.Dec.{leb}
+use Rattle.run.specs.Answer.{written}
+
+by-room : (answer output : List ℕ) (b : Bool) → leb (length answer) (length output) ≡ b → (written answer output .number ≡ 0) ⊎ (written answer output .number ≡ 13)
+unfolding written
+by-room answer output true e = inl (rw e)
+by-room answer output false e = inr (rw e)
+
+pub written-number : (answer output : List ℕ) → (written answer output .number ≡ 0) ⊎ (written answer output .number ≡ 13)
+written-number answer output = by-room answer output (leb (length answer) (length output)) refl
+
+first : {x : ℕ} → (x ≡ 0) ⊎ (x ≡ 13) → x ≢ 13 → x ≡ 0
+first (inl e) n = e
+first (inr e) n = absurd (n e)
+
+second : {x : ℕ} → (x ≡ 0) ⊎ (x ≡ 13) → x ≢ 0 → x ≡ 13
+second (inl e) n = absurd (n e)
+second (inr e) n = e
+
+pub written-fits : (answer output : List ℕ) → written answer output .number ≢ 13 → written answer output .number ≡ 0
+written-fits answer output n = first (written-number answer output) n
+
+pub written-short : (answer output : List ℕ) → written answer output .number ≢ 0 → written answer output .number ≡ 13
+written-short answer output n = second (written-number answer output) n
