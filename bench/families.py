@@ -85,14 +85,18 @@ def rule_match(seed):
     return p
 
 
-def chain(nodes):
-    """Two chains of applications, one node after another."""
-    p = Problem(2, 1)
-    left, right = p.atom(0), p.suspension(0)
+def two_chains(p, left, right, nodes):
+    """An equation of two chains of applications over two nodes, so many nodes in all."""
     while p.nodes + 2 <= nodes:
         left, right = p.application(3, left), p.application(3, right)
     p.equation(left, right)
     return p
+
+
+def chain(nodes):
+    """Two chains that meet: an atom and a variable at their ends."""
+    p = Problem(2, 1)
+    return two_chains(p, p.atom(0), p.suspension(0), nodes)
 
 
 def shared_pairs(nodes):
@@ -128,13 +132,9 @@ def many_swaps(count):
 
 
 def late_clash(nodes):
-    """A limit of 4,294,967,295 and a clash at the end."""
+    """Two chains under a limit of 4,294,967,295 that clash at their ends."""
     p = Problem(2, 0)
-    left, right = p.atom(0), p.atom(1)
-    while p.nodes + 2 <= nodes:
-        left, right = p.application(3, left), p.application(3, right)
-    p.equation(left, right)
-    return p
+    return two_chains(p, p.atom(0), p.atom(1), nodes)
 
 
 def nested_pairs():
