@@ -2,32 +2,33 @@
 ghost use Prim.Native.Nat.{_≤_};
 ghost use mathlib.Core.Path.{_≡_};
 ghost use lib.ListN.{length, take};
+ghost use Rattle.intake.specs.Fills.{Fills};
+use descriptor::Answer;
 
-// How many bytes came, and whether the input could be read up to there.
+// How many bytes came, whether the input could be read up to there, and what the last read answered.
 pub struct Filled {
     pub count: usize,
     pub failed: bool,
+    pub last: Answer,
 }
 
-// Reads until the bytes are full, the input ends, or a read fails.
+// Reads until the bytes are full, the input ends, or a read fails. No call comes after a read that failed, so errno is that read's.
 pub fn fill(fd: i32, buf: &mut [u8]) -> Filled
     ensures { λ r. ⌜ (r .count ≤ length (now (buf .exit))) × (r .count ≡ length (take (r .count) (now (buf .exit)))) ⌝ }
+    ensures { λ r. ⌜ Fills (length (now (buf .exit))) (r .count) (r .failed) (r .last) ⌝ }
 {
     let mut done: usize = 0;
+    let mut last = descriptor::none();
     while done < buf.len() {
         let part = &mut buf[done..];
-        let got = libc::read(fd, part);
-        if got < 0 {
-            return Filled {
-                count: done,
-                failed: true,
-            };
-        }
-        let more = io::count(got, part);
+        last = descriptor::read(fd, part);
+        let more = descriptor::moved(last);
         if more == 0 {
+            let failed = descriptor::failed(last);
             return Filled {
                 count: done,
-                failed: false,
+                failed: failed,
+                last: last,
             };
         }
         done += more;
@@ -35,5 +36,6 @@ pub fn fill(fd: i32, buf: &mut [u8]) -> Filled
     Filled {
         count: done,
         failed: false,
+        last: last,
     }
 }

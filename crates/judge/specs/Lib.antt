@@ -1,2 +1,3 @@
--- What the program judge prints: definitions that its contracts cite.
+-- What the program judge reads, works and prints: definitions that its contracts cite.
 pub mod Printing
+pub mod Serving

@@ -1,31 +1,45 @@
 // One problem on standard input, the judge's line on standard output. An input over 65,535 bytes fills the room of 65,536, and the judge refuses it.
-ghost use mathlib.Core.Path.{_≡_};
 ghost use Prim.Native.Nat.{_≤_};
-ghost use lib.ListN.{length, take};
+ghost use lib.ListN.{length};
 ghost use Rattle.run.specs.Answer as run;
-ghost use Rattle.printer.specs.Placed.{Placed};
-ghost use Rattle.judge.specs.Printing.{lineOf};
+ghost use Rattle.intake.specs.Fills.{Fills};
+ghost use Rattle.judge.specs.Serving.{Works, Serves};
+use exchange::Served;
+use exchange::Worked;
 
-// What the problem prints, whole, in `out` from its start, and where that ends.
-fn worked(input: &[u8], out: &mut [u8]) -> usize
+// What the problem prints, whole, in `out` from its start.
+fn work(input: &[u8], out: &mut [u8]) -> Worked
     requires { ⌜ 33 ≤ length (now out) ⌝ }
-    ensures { λ r. ⌜ take r (now (out .exit)) ≡ lineOf (run.judge (now (input .entry))) ⌝ }
-    ensures { λ r. ⌜ Placed (now (out .entry)) 0 (lineOf (run.judge (now (input .entry)))) r (now (out .exit)) ⌝ }
+    ensures { λ r. ⌜ Works (run.judge (now (input .entry))) (now (out .exit)) r ⌝ }
 {
     let judgement = solver::entries::judge(input);
     let given = numbers::of_judgement(judgement);
-    printer::judge_line(out, 0, given.number, given.place)
+    let end = printer::judge_line(out, 0, given.number, given.place);
+    Worked {
+        given: given,
+        end: end,
+    }
+}
+
+// Reads the problem, works what was read, and writes what that prints.
+fn serve(input: &mut [u8], out: &mut [u8]) -> Served
+    requires { ⌜ 33 ≤ length (now out) ⌝ }
+    ensures { λ r. ⌜ Fills (length (now (input .exit))) (r .filled .count) (r .filled .failed) (r .filled .last) ⌝ }
+    ensures { λ r. ⌜ Serves (now (input .exit)) (now (out .entry)) (now (out .exit)) r ⌝ }
+{
+    let filled = intake::fill(0, input);
+    if filled.failed {
+        return exchange::unread(filled);
+    }
+    let count = filled.count;
+    let worked = work(&input[..count], out);
+    let given = worked.given;
+    let end = worked.end;
+    exchange::answered(filled, given, &input[..count], &out[..end])
 }
 
 fn main() {
     let mut input = io::large_buffer();
-    let filled = intake::fill(0, &mut input);
-    if filled.failed {
-        io::write_all(2, b"standard input cannot be read\n");
-        return;
-    }
-    let count = filled.count;
     let mut out = io::buffer();
-    let end = worked(&input[..count], &mut out);
-    io::write_all(1, &out[..end]);
+    exchange::close(serve(&mut input, &mut out));
 }

@@ -1,2 +1,3 @@
--- What the program solve prints: definitions that its contracts cite.
+-- What the program solve reads, works and prints: definitions that its contracts cite.
 pub mod Printing
+pub mod Serving

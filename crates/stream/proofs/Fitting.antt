@@ -17,10 +17,19 @@ lines-length : (number place : ℕ) (output : List ℕ) (judged spot room : ℕ)
     → 4 * length output ≤ room → 33 ≤ room → length (problemLines number place output judged spot) ≤ room + 34
 unfolding problemLines
 lines-length number place output judged spot room a b c l m =
-    omega (arith, length-append (solverLines number place output ++ judgeLine judged spot) newline, length-append (solverLines number place output) (judgeLine judged spot), solver-length number place output room (a .0) (a .1) c l m, judge-length judged spot (b .0) (b .1))
+    let solved = solverLines number place output in
+    let judge = judgeLine judged spot in
+    omega (
+      arith,
+      length-append (solved ++ judge) newline,
+      length-append solved judge,
+      solver-length number place output room (a .0) (a .1) c l m,
+      judge-length judged spot (b .0) (b .1),
+    )
 
 -- With room enough, what was placed from the start of the room is all lines, whole.
 pub lines-whole : (number place : ℕ) (output : List ℕ) (judged spot : ℕ) {d e : List ℕ} {r : ℕ} → Small number place → Small judged spot → Bytes output
-    → 4 * length output + 67 ≤ length d → Placed d 0 (problemLines number place output judged spot) r e → take r e ≡ problemLines number place output judged spot
+    → 4 * length output + 67 ≤ length d → Placed d 0 (problemLines number place output judged spot) r e
+    → take r e ≡ problemLines number place output judged spot
 lines-whole number place output judged spot a b c l p =
     placed-whole p (omega (arith, lines-length number place output judged spot (4 * length output + 33) a b c (omega arith) (omega arith), l))

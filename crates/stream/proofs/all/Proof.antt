@@ -1,80 +1,91 @@
--- `stream::all` ends: it counts the problems.
-use Prim.Native.Nat.{ℕ, _-_, _≤_}
-use mathlib.Core.List.{List}
-use mathlib.Core.Path.{_≡_, _∙_, sym, subst}
+-- `stream::all` ends, since it counts the problems, and goes on only after a writing that was whole.
+use Prim.Native.Nat.{_-_}
 use native.Mathlib.Omega.{arith}
+use mathlib.Core.Path.{_≡_, refl, _∙_}
 use lib.ListN.{length}
-use lib.Seq.{length-take-le}
-use Rattle.stream.specs.declared.Came.{Came}
-use Rattle.stream.specs.declared.Came.the-variants.{Whole}
-use Rattle.stream.specs.Came.{bytesOf}
+use Rattle.stream.specs.declared.How.the-variants.{Open}
+use Rattle.stream.proofs.Turning.{Gone, gone, ends}
 use borrow.Author.Needs.{needs}
 use Rattle.stream.proofs.all.Statement.{statement}
 use Rattle.stream.proofs.all.Tie as tie
 
--- A problem that came whole lies within the room.
-whole : {n : ℕ} (r : Came) (l : List ℕ) → r ≡ Whole n → bytesOf r ≤ length l → n ≤ length l
-whole r l e h = subst (λ x. bytesOf x ≤ length l) e h
-
 abbrev Inv-loop : tie.InvT-loop
-Inv-loop input₀ output₀ out₀ places₀ equation-places₀ fresh-places₀ assumed₀ node-variables₀ numbers₀ lefts₀ rights₀ left-images₀ right-images₀ order₀ roots₀ value-images₀ made-by₀ asked-nodes₀ first-nodes₀ asked-variables₀ first-variables₀ seen₀ done₀ count₀ input output out places equation-places fresh-places assumed node-variables numbers lefts rights left-images right-images order roots value-images made-by asked-nodes first-nodes asked-variables first-variables seen done count =
-    (length input ≡ length input₀) × ((length output ≡ length output₀) × (length out ≡ length out₀))
+Inv-loop input₀ output₀ out₀ places₀ equation-places₀ fresh-places₀ assumed₀ node-variables₀ numbers₀ lefts₀ rights₀ left-images₀ right-images₀ order₀
+    roots₀ value-images₀ made-by₀ asked-nodes₀ first-nodes₀ asked-variables₀ first-variables₀ seen₀ done₀ count₀ ending₀ input output out places
+    equation-places fresh-places assumed node-variables numbers lefts rights left-images right-images order roots value-images made-by asked-nodes
+    first-nodes asked-variables first-variables seen done count ending =
+    (length input ≡ length input₀)
+    × ((length output ≡ length output₀) × ((length out ≡ length out₀) × ((ending .how ≡ Open) × Gone count out (ending .taken))))
 
 abbrev μ-loop : tie.MeasureT-loop
-μ-loop input₀ output₀ out₀ places₀ equation-places₀ fresh-places₀ assumed₀ node-variables₀ numbers₀ lefts₀ rights₀ left-images₀ right-images₀ order₀ roots₀ value-images₀ made-by₀ asked-nodes₀ first-nodes₀ asked-variables₀ first-variables₀ seen₀ done₀ count₀ input output out places equation-places fresh-places assumed node-variables numbers lefts rights left-images right-images order roots value-images made-by asked-nodes first-nodes asked-variables first-variables seen done count =
-    18446744073709551615 - count
+μ-loop input₀ output₀ out₀ places₀ equation-places₀ fresh-places₀ assumed₀ node-variables₀ numbers₀ lefts₀ rights₀ left-images₀ right-images₀ order₀
+    roots₀ value-images₀ made-by₀ asked-nodes₀ first-nodes₀ asked-variables₀ first-variables₀ seen₀ done₀ count₀ ending₀ input output out places
+    equation-places fresh-places assumed node-variables numbers lefts rights left-images right-images order roots value-images made-by asked-nodes
+    first-nodes asked-variables first-variables seen done count ending = 18446744073709551615 - count
+
+-- The place before a turn where the loop's test held; the loop with its invariant is before it.
+abbrev at-test : tie.After-turn Inv-loop μ-loop → tie.In-loop Inv-loop μ-loop
+at-test c =
+    let half = c .before .before .before .before .before .before .before .before .before .before .before .before in
+    half .before .before .before .before .before .before .before .before .before .before .before .before
+
+-- What was lent is as long after a turn as it was at the start.
+abbrev Lent : tie.After-turn Inv-loop μ-loop → Type 0
+Lent c =
+    let start = at-test c .before .before .before .before .before .before in
+    (length (c .turn .last .0) ≡ length (start .args .input .now))
+    × ((length (c .turn .last .1 .0) ≡ length (start .args .output .now)) × (length (c .turn .last .1 .1 .0) ≡ length (start .args .out .now)))
+
+lent : (c : tie.After-turn Inv-loop μ-loop) → Lent c
+lent c =
+    let inv = at-test c .before .loop .inv in
+    (c .turn .kept .0 ∙ inv .0, (c .turn .kept .1 .0 ∙ inv .1 .0, c .turn .kept .1 .1 .0 ∙ inv .1 .1 .0))
+
+nothing-requires : tie.Need-nothing-requires Inv-loop μ-loop
+nothing-requires c κs = search needs
 
 loop-holds : tie.Need-loop-holds Inv-loop μ-loop
-loop-holds c = search needs
+loop-holds c = (refl, (refl, (refl, (refl, (c .nothing .ensures .1, λ h. absurd (omega arith))))))
 
-next-requires : tie.Need-next-requires Inv-loop μ-loop
-next-requires c κs = search needs
+turn-requires : tie.Need-turn-requires Inv-loop μ-loop
+turn-requires c κs = search needs
 
-enum-known-came : tie.Need-enum-known-came Inv-loop μ-loop
-enum-known-came c = search needs
+settled-requires : tie.Need-settled-requires Inv-loop μ-loop
+settled-requires c κs =
+    let at-turn = c .before .before .before .before .before .before .before in
+    let start = at-test at-turn .before .before .before .before .before .before in
+    omega (arith, lent at-turn .1 .1, start .pre .1)
 
-ended-requires : tie.Need-ended-requires Inv-loop μ-loop
-ended-requires c κs = search needs
+enum-told : tie.Need-enum-told Inv-loop μ-loop
+enum-told c = search needs
 
 same-length : tie.Need-same-length Inv-loop μ-loop
-same-length c = search needs
+same-length c = lent (c .before .before .before .before .before .before .before .before .before .before .before) .0
 
 same-length-2 : tie.Need-same-length-2 Inv-loop μ-loop
-same-length-2 c = search needs
+same-length-2 c = lent (c .before .before .before .before .before .before .before .before .before .before .before) .1 .0
 
 same-length-3 : tie.Need-same-length-3 Inv-loop μ-loop
-same-length-3 c = search needs
+same-length-3 c =
+    let at-settled = c .before .before .before in
+    at-settled .settled .kept .1 .1 .0 ∙ lent (at-settled .before .before .before .before .before .before .before .before) .1 .1
 
 returns : tie.Need-returns Inv-loop μ-loop
-returns c = search needs
-
-slice-reshare-prefix-worked : tie.Need-slice-reshare-prefix-worked Inv-loop μ-loop
-slice-reshare-prefix-worked c = whole _ (c .before .before .before .before .before .next .last .0) (c .before .came .given .1) (c .before .before .before .before .before .next .ensures)
-
-slice-aggregate-worked : tie.Need-slice-aggregate-worked Inv-loop μ-loop
-slice-aggregate-worked c = sym (length-take-le _ _ (whole _ (c .before .before .before .before .before .before .next .last .0) (c .before .before .came .given .1) (c .before .before .before .before .before .before .next .ensures)))
-
-worked-requires : tie.Need-worked-requires Inv-loop μ-loop
-worked-requires c κs = search needs
-
-slice-reshare-prefix-write-all : tie.Need-slice-reshare-prefix-write-all Inv-loop μ-loop
-slice-reshare-prefix-write-all c = search needs
-
-slice-aggregate-write-all : tie.Need-slice-aggregate-write-all Inv-loop μ-loop
-slice-aggregate-write-all c = search needs
-
-write-all-requires : tie.Need-write-all-requires Inv-loop μ-loop
-write-all-requires c κs = search needs
+returns c = ends (c .before .before .before .settled .ensures)
 
 add-count : tie.Need-add-count Inv-loop μ-loop
-add-count c = omega (arith, c .before .before .before .before .before .before .before .before .before .before .before .before .before .before .before .before .before .before .before .before .before .before .before .before .before .before .before .before .before .before .before .before .before .before .before .before .before .loop-test .taken)
+add-count c = omega (arith, at-test (c .before .before .before .before .before .before .before .before .before .before .before .before) .loop-test .taken)
 
 loop-less : tie.Need-loop-less Inv-loop μ-loop
-loop-less c = omega (arith, c .before .before .before .before .before .before .before .before .before .before .before .before .before .before .before .before .before .before .before .before .before .before .before .before .before .before .before .before .before .before .before .before .before .before .before .before .before .loop-test .taken)
+loop-less c = omega (arith, at-test (c .before .before .before .before .before .before .before .before .before .before .before .before) .loop-test .taken)
 
 loop-again : tie.Need-loop-again Inv-loop μ-loop
 loop-again c =
-    (c .before .before .before .before .before .before .before .before .before .before .before .before .before .before .before .before .before .before .before .before .before .before .before .before .before .before .before .before .before .before .before .before .before .before .before .next .kept .0 ∙ c .before .before .before .before .before .before .before .before .before .before .before .before .before .before .before .before .before .before .before .before .before .before .before .before .before .before .before .before .before .before .before .before .before .before .before .before .before .before .loop .inv .0, (c .before .before .before .before .before .before .worked .kept .1 .0 ∙ c .before .before .before .before .before .before .before .before .before .before .before .before .before .before .before .before .before .before .before .before .before .before .before .before .before .before .before .before .before .before .before .before .before .before .before .before .before .before .loop .inv .1 .0, c .before .before .before .before .before .before .worked .kept .1 .1 .0 ∙ c .before .before .before .before .before .before .before .before .before .before .before .before .before .before .before .before .before .before .before .before .before .before .before .before .before .before .before .before .before .before .before .before .before .before .before .before .before .before .loop .inv .1 .1))
+    let at-settled = c .before .before .before .before in
+    let at-turn = at-settled .before .before .before .before .before .before .before .before in
+    let same = lent at-turn in
+    let stands = c .enum-told .given .1 in
+    (same .0, (same .1 .0, (at-settled .settled .kept .1 .1 .0 ∙ same .1 .1, (stands, gone (at-turn .turn .ensures) (at-settled .settled .ensures) stands))))
 
 same-length-4 : tie.Need-same-length-4 Inv-loop μ-loop
 same-length-4 c = search needs
@@ -86,7 +97,9 @@ same-length-6 : tie.Need-same-length-6 Inv-loop μ-loop
 same-length-6 c = search needs
 
 returns-2 : tie.Need-returns-2 Inv-loop μ-loop
-returns-2 c = search needs
+returns-2 c =
+    let inv = c .before .loop .inv .1 .1 .1 in
+    rw (inv .0) (inv .1 .0)
 
 pub all-spec : {M : Type 1} → statement M
 all-spec =
@@ -94,20 +107,15 @@ all-spec =
     (tie.spec
     Inv-loop
     μ-loop
+    nothing-requires
     loop-holds
-    next-requires
-    enum-known-came
-    ended-requires
+    turn-requires
+    settled-requires
+    enum-told
     same-length
     same-length-2
     same-length-3
     returns
-    slice-reshare-prefix-worked
-    slice-aggregate-worked
-    worked-requires
-    slice-reshare-prefix-write-all
-    slice-aggregate-write-all
-    write-all-requires
     add-count
     loop-less
     loop-again

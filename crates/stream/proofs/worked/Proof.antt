@@ -27,6 +27,23 @@ told {n} {p} {m} {q} {r} {o} {d} {e} v k s j f g a b x y z l h =
     let same : problemLines n p o m q ≡ linesOf s j = cc in
     (lines-whole n p o m q x y z l h ∙ same, subst (λ t. Placed d 0 t r e) same h)
 
+-- The places of the calls, and the start, seen from the end.
+abbrev at-judge : tie.After-slice-known4 → tie.After-judge-with
+at-judge c = c .before .before .before .before .before .before .before
+
+abbrev at-known : tie.After-slice-known4 → tie.After-slice-known3
+at-known c =
+    let half = at-judge c .before .before .before .before .before .before .before .before .before .before .before in
+    half .before .before .before .before .before .before .before .before .before .before
+
+abbrev at-solve : tie.After-slice-known4 → tie.After-solve-with
+at-solve c = at-known c .before .before
+
+abbrev start : tie.After-slice-known4 → tie.Start
+start c =
+    let half = at-solve c .before .before .before .before .before .before .before .before .before .before .before .before .before in
+    half .before .before .before .before .before .before .before .before .before .before .before .before
+
 solve-with-requires : tie.Need-solve-with-requires
 solve-with-requires c κs = search needs
 
@@ -43,7 +60,7 @@ problem-lines-requires : tie.Need-problem-lines-requires
 problem-lines-requires c κs = search needs
 
 same-length : tie.Need-same-length
-same-length c = c .before .before .before .before .before .before .before .before .before .before .before .before .before .before .before .before .before .before .before .before .before .before .before .before .before .before .before .before .before .before .solve-with .kept .1 .0
+same-length c = at-solve c .solve-with .kept .1 .0
 
 same-length-2 : tie.Need-same-length-2
 same-length-2 c = search needs
@@ -51,7 +68,14 @@ same-length-2 c = search needs
 returns : tie.Need-returns
 unfolding block
 returns c =
-    told (c .before .before .before .before .before .before .before .before .before .before .before .before .before .before .before .before .before .before .before .before .before .before .before .before .before .before .before .before .before .before .solve-with .result) (c .before .before .before .before .before .before .before .judge-with .result) _ _ (c .before .before .before .before .before .before .before .before .before .before .before .before .before .before .before .before .before .before .before .before .before .before .before .before .before .before .before .before .before .before .solve-with .ensures) (c .before .before .before .before .before .before .before .judge-with .ensures) (c .before .before .before .before .before .before .of-verdict .ensures) (c .before .before .before .before .before .of-judgement .ensures) (omega (arith, c .before .before .before .before .before .before .of-verdict .ok), omega (arith, c .before .before .before .before .before .before .of-verdict .ok)) (omega (arith, c .before .before .before .before .before .of-judgement .ok), omega (arith, c .before .before .before .before .before .of-judgement .ok)) (λ i. c .before .before .before .before .before .before .before .before .before .before .before .before .before .before .before .before .before .before .before .before .before .before .before .before .before .before .before .before .slice-known3 .given i .fits) (omega (arith, c .before .before .before .before .before .before .before .before .before .before .before .before .before .before .before .before .before .before .before .before .before .before .before .before .before .before .before .before .before .before .solve-with .kept .1 .0, c .before .before .before .before .before .before .before .before .before .before .before .before .before .before .before .before .before .before .before .before .before .before .before .before .before .before .before .before .before .before .before .before .before .before .before .before .before .before .before .before .before .before .before .before .before .before .before .before .before .before .before .before .before .before .before .pre)) (c .before .before .problem-lines .ensures)
+    let at-judgement = c .before .before .before .before .before in
+    let at-verdict = at-judgement .before in
+    let solved = at-solve c .solve-with in
+    let judged = at-judge c .judge-with in
+    told (solved .result) (judged .result) _ _ (solved .ensures) (judged .ensures) (at-verdict .of-verdict .ensures) (at-judgement .of-judgement .ensures)
+    (omega (arith, at-verdict .of-verdict .ok), omega (arith, at-verdict .of-verdict .ok))
+    (omega (arith, at-judgement .of-judgement .ok), omega (arith, at-judgement .of-judgement .ok)) (λ i. at-known c .slice-known3 .given i .fits)
+    (omega (arith, solved .kept .1 .0, start c .pre)) (c .before .before .problem-lines .ensures)
 
 pub worked-spec : {M : Type 1} → statement M
 worked-spec =

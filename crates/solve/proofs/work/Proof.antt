@@ -1,9 +1,9 @@
--- `solve::worked` prints the lines of what the definition gives back.
+-- `solve::work` prints the lines of what the definition gives back.
 use Prim.Native.Nat.{ℕ, _*_, _≤_, _<_}
 use native.Mathlib.Omega.{arith}
 use mathlib.Core.List.{List}
-use mathlib.Core.Path.{_≡_, _∙_, subst}
-use lib.ListN.{length, take}
+use mathlib.Core.Path.{_≡_, _∙_, ap}
+use lib.ListN.{length}
 use Rattle.field.specs.Field.{Bytes}
 use Rattle.run.specs.Answer as run
 use Rattle.numbers.specs.Verdicts.{numberOf, placeOf, resultOf}
@@ -12,18 +12,24 @@ use Rattle.printer.specs.Lines.{solverLines}
 use Rattle.printer.specs.Placed.{Placed}
 use Rattle.printer.proofs.Fitting.{solver-length, placed-whole}
 use Rattle.solve.specs.Printing.{linesOf}
+use Rattle.solve.specs.Serving.{Works}
 use borrow.Author.Needs.{needs}
-use Rattle.solve.proofs.worked.Statement.{statement}
-use Rattle.solve.proofs.worked.Tie as tie
+use Rattle.solve.proofs.work.Statement.{statement}
+use Rattle.solve.proofs.work.Tie as tie
 
 -- What is printed of the number and the place is the lines, where the solver gave back what the definition says; and they are there whole.
 told :
     {n p r : ℕ} {o d e : List ℕ} (v : Verdict) (s : run.Result) → resultOf v o ≡ s → (n ≡ numberOf v) × (p ≡ placeOf v) →
     n < 256 → p < 18446744073709551616 → Bytes o → 4 * length o ≤ length d → 33 ≤ length d →
-    Placed d 0 (solverLines n p o) r e → (take r e ≡ linesOf s) × Placed d 0 (linesOf s) r e
+    Placed d 0 (solverLines n p o) r e → Works s e (record { given = record { number = n; place = p }; end = r })
 told {n} {p} {r} {o} {d} {e} v s f a x y z l m h =
-    let same : solverLines n p o ≡ linesOf s = cc in
-    (placed-whole h (omega (arith, solver-length n p o (length d) x y z l m)) ∙ same, subst (λ t. Placed d 0 t r e) same h)
+    let same : solverLines n p o ≡ linesOf s = cc in record {
+      lines = placed-whole h (omega (arith, solver-length n p o (length d) x y z l m)) ∙ same;
+      number = a .0 ∙ ap (λ (t : run.Result). t .number) f;
+      place = a .1 ∙ ap (λ (t : run.Result). t .place) f;
+      within = h .within;
+      counts = h .counts;
+    }
 
 solve-requires : tie.Need-solve-requires
 solve-requires c κs = search needs
@@ -42,10 +48,25 @@ same-length-2 c = search needs
 
 returns : tie.Need-returns
 returns c =
-    told (c .before .before .before .before .before .before .before .before .solve .result) _ (c .before .before .before .before .before .before .before .before .solve .ensures) (c .before .before .before .before .before .of-verdict .ensures) (omega (arith, c .before .before .before .before .before .of-verdict .ok)) (omega (arith, c .before .before .before .before .before .of-verdict .ok)) (λ i. c .before .before .before .before .before .before .slice-known3 .given i .fits) (omega (arith, c .before .before .before .before .before .before .before .before .solve .kept .1 .0, c .before .before .before .before .before .before .before .before .before .before .before .before .before .pre .0)) (c .before .before .before .before .before .before .before .before .before .before .before .before .before .pre .1) (c .before .before .solver-lines .ensures)
+    let given = c .before .before .before .before .before in
+    let known = given .before in
+    let solved = known .before .before in
+    let start = solved .before .before .before .before .before in
+    let small = given .of-verdict .ok in
+    told
+    (solved .solve .result)
+    _
+    (solved .solve .ensures)
+    (given .of-verdict .ensures)
+    (omega (arith, small))
+    (omega (arith, small))
+    (λ i. known .slice-known3 .given i .fits)
+    (omega (arith, solved .solve .kept .1 .0, start .pre .0))
+    (start .pre .1)
+    (c .before .before .solver-lines .ensures)
 
-pub worked-spec : {M : Type 1} → statement M
-worked-spec =
+pub work-spec : {M : Type 1} → statement M
+work-spec =
     tie.close
     (tie.spec
     solve-requires

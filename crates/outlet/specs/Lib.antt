@@ -1,0 +1,2 @@
+-- What writing bytes gives back: definitions that contracts cite.
+pub mod Puts
