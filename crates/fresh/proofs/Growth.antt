@@ -184,19 +184,27 @@ module _ (p : Problem) (atoms n : ℕ) (seen asked : List ℕ) (few : n < length
         from value (of-node a i) (q, h) = rw q (further (begin value a h) (to-argument e))
         from value (of-variable a X) h = absurd h
 
-    pub visited-pair : {Between After : pairs.Pair → Type 0} (x y : ℕ) → formAt (p .nodes) n ≡ pair-form x y → Visited (p .nodes) new x (Marked p seen₁ asked) Between
-        → Visited (p .nodes) new y Between After → Visited (p .nodes) atoms n (Marked p seen asked) After
-    visited-pair {Between} {After} x y e v w =
-        visited-by After (pair-form x y) e (λ value. grown-more (grown-from (left value) (v .grown value)) (grown-from (right value) (w .grown value)))
-        (λ a h. (w .grown (λ X. none) .kept (of-node a x) (v .here a h), w .here a h))
-      where
-        left : (value : ℕ → Option Side) (u : pairs.Pair) → Only new x u → Reached (p .nodes) value (Only atoms n) u
-        left value (of-node a i) (q, h) = rw q (further (begin value a h) (to-left e))
-        left value (of-variable a X) h = absurd h
+    module _ (x y : ℕ) (e : formAt (p .nodes) n ≡ pair-form x y) where
+      left : (value : ℕ → Option Side) (u : pairs.Pair) → Only new x u → Reached (p .nodes) value (Only atoms n) u
+      left value (of-node a i) (q, h) = rw q (further (begin value a h) (to-left e))
+      left value (of-variable a X) h = absurd h
 
-        right : (value : ℕ → Option Side) (u : pairs.Pair) → Only new y u → Reached (p .nodes) value (Only atoms n) u
-        right value (of-node a i) (q, h) = rw q (further (begin value a h) (to-right e))
-        right value (of-variable a X) h = absurd h
+      right : (value : ℕ → Option Side) (u : pairs.Pair) → Only new y u → Reached (p .nodes) value (Only atoms n) u
+      right value (of-node a i) (q, h) = rw q (further (begin value a h) (to-right e))
+      right value (of-variable a X) h = absurd h
+
+      -- Both parts visited, the left one first or the right one first.
+      pub visited-pair : {Between After : pairs.Pair → Type 0} → Visited (p .nodes) new x (Marked p seen₁ asked) Between → Visited (p .nodes) new y Between After
+          → Visited (p .nodes) atoms n (Marked p seen asked) After
+      visited-pair {Between} {After} v w =
+          visited-by After (pair-form x y) e (λ value. grown-more (grown-from (left value) (v .grown value)) (grown-from (right value) (w .grown value)))
+          (λ a h. (w .grown (λ X. none) .kept (of-node a x) (v .here a h), w .here a h))
+
+      pub visited-pair-right : {Between After : pairs.Pair → Type 0} → Visited (p .nodes) new y (Marked p seen₁ asked) Between → Visited (p .nodes) new x Between After
+          → Visited (p .nodes) atoms n (Marked p seen asked) After
+      visited-pair-right {Between} {After} v w =
+          visited-by After (pair-form x y) e (λ value. grown-more (grown-from (right value) (v .grown value)) (grown-from (left value) (w .grown value)))
+          (λ a h. (w .here a h, w .grown (λ X. none) .kept (of-node a y) (v .here a h)))
 
     -- A pair of one node with itself: a second visit would find nothing new.
     pub visited-twins : {After : pairs.Pair → Type 0} (x y : ℕ) → formAt (p .nodes) n ≡ pair-form x y → x ≡ y → Visited (p .nodes) new y (Marked p seen₁ asked) After

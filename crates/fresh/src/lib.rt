@@ -134,8 +134,9 @@ fn ask(
 }
 
 // "Freshness is judged part by part, a compound term by its parts": marks the atoms at the node and what 003's rules lead to within its parts. Atoms
-// that come to a variable are left there. A node's last part is the loop's next turn, so that only a pair's left part costs a call, and none where both
-// parts are one node: the second visit would find nothing new.
+// that come to a variable are left there. A node's last part is the loop's next turn, and of a pair it is the higher one: so only the lower one costs a
+// call, which is at least two numbers down, and calls are at most 256 deep. None is made where both parts are one node: the second visit would find
+// nothing new.
 pub fn visit(
     s: &[u8],
     places: &[u16; 512],
@@ -172,7 +173,12 @@ pub fn visit(
                 if l.0 == r.0 {
                     continue;
                 }
-                visit(s, places, new, l, seen, asked_variables);
+                if l.0 < r.0 {
+                    visit(s, places, new, l, seen, asked_variables);
+                    continue;
+                }
+                at = l;
+                visit(s, places, new, r, seen, asked_variables);
                 continue;
             }
             Form::Application(f, m) => {

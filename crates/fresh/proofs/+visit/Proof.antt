@@ -11,7 +11,7 @@ use Rattle.problem.specs.Held.{problemOf}
 use Rattle.problem.specs.Look.{swapsOf}
 use Rattle.problem.specs.declared.Form.{Form}
 use Rattle.fresh.specs.Marks.{Standing, added}
-use Rattle.fresh.proofs.Growth.{Onward, visited-again, visited-unit, visited-atom, visited-abstraction, visited-application, visited-pair, visited-twins, visited-suspension, untold, told-back, suspended-by, named-by, swaps-within}
+use Rattle.fresh.proofs.Growth.{Onward, visited-again, visited-unit, visited-atom, visited-abstraction, visited-application, visited-pair, visited-pair-right, visited-twins, visited-suspension, untold, told-back, suspended-by, named-by, swaps-within}
 use Prim.Native.Nat.{ℕ, _≤_, _<_}
 use borrow.Fn.Kinds.{In}
 use borrow.Fn.PlainCycle.{Measures, is, falls, and}
@@ -144,23 +144,33 @@ visit-loop-again-2 : (t : ℕ) → visit-lts.Need-loop-again-2 (claims t) (visit
 visit-loop-again-2 t c = (lower-part _ _ _ (named-by (stands t (turn t (c .before .before .before .before .before .before))) _ _ (told t (c .before .before .before .before .before .before) (c .before .before .before .before .form3 .given .1)) .1) (c .before .before .before .before .before .before .before .before .before .before .before .before .before .before .before .before .loop .inv .0), λ seen₁ asked₁ v. c .before .before .before .before .before .before .before .before .before .before .before .before .before .before .before .before .loop .inv .1 seen₁ asked₁ (visited-twins _ _ _ _ _ (few t (turn t (c .before .before .before .before .before .before))) _ (is-new t (c .before .before .before .before .before .before .before .before .before .before .before)) (in-seen t (c .before .before .before .before .before .before)) _ (is-seen t (c .before .before .before .before .before .before)) _ _ (told t (c .before .before .before .before .before .before) (c .before .before .before .before .form3 .given .1)) (c .if2 .taken) v))
 
 visit-visit-requires : (t : ℕ) → visit-lts.Need-visit-requires (claims t) (visit-at t) visit.Post Inv μ
-visit-visit-requires t c κs = let h = lower _ _ _ (named-by (stands t (turn t (c .before .before .before .before .before .before .before .before))) _ _ (told t (c .before .before .before .before .before .before .before .before) (c .before .before .before .before .before .before .form3 .given .1)) .0) (c .before .before .before .before .before .before .before .before .before .before .before .before .before .before .before .before .before .before .loop .inv .0) in
-    (rw (c .before .before .before .before .before .before .before .before .before .before .before .before .before .before .before .before .before .before .before .before .pre .0) at h, (c .before .before .before .before .before .before .before .before .before .before .before .before .before .before .before .before .before .before .before .before .pre .1 .0, omega (arith, h, c .before .before .before .before .before .before .before .before .before .before .before .before .before .before .before .before .before .before .before .before .pre .1 .1)))
+visit-visit-requires t c κs = let h = lower _ _ _ (named-by (stands t (turn t (c .before .before .before .before .before .before .before .before .before .before .before))) _ _ (told t (c .before .before .before .before .before .before .before .before .before .before .before) (c .before .before .before .before .before .before .before .before .before .form3 .given .1)) .0) (c .before .before .before .before .before .before .before .before .before .before .before .before .before .before .before .before .before .before .before .before .before .loop .inv .0) in
+    (rw (c .before .before .before .before .before .before .before .before .before .before .before .before .before .before .before .before .before .before .before .before .before .before .before .pre .0) at h, (c .before .before .before .before .before .before .before .before .before .before .before .before .before .before .before .before .before .before .before .before .before .before .before .pre .1 .0, omega (arith, h, c .before .before .before .before .before .before .before .before .before .before .before .before .before .before .before .before .before .before .before .before .before .before .before .pre .1 .1)))
 
 visit-loop-less-3 : (t : ℕ) → visit-lts.Need-loop-less-3 (claims t) (visit-at t) visit.Post Inv μ
-visit-loop-less-3 t c = named-by (stands t (turn t (c .before .before .before .before .before .before .before .before .before))) _ _ (told t (c .before .before .before .before .before .before .before .before .before) (c .before .before .before .before .before .before .before .form3 .given .1)) .1
+visit-loop-less-3 t c = named-by (stands t (turn t (c .before .before .before .before .before .before .before .before .before .before .before .before))) _ _ (told t (c .before .before .before .before .before .before .before .before .before .before .before .before) (c .before .before .before .before .before .before .before .before .before .before .form3 .given .1)) .1
 
 visit-loop-again-3 : (t : ℕ) → visit-lts.Need-loop-again-3 (claims t) (visit-at t) visit.Post Inv μ
-visit-loop-again-3 t c = (lower-part _ _ _ (named-by (stands t (turn t (c .before .before .before .before .before .before .before .before .before))) _ _ (told t (c .before .before .before .before .before .before .before .before .before) (c .before .before .before .before .before .before .before .form3 .given .1)) .1) (c .before .before .before .before .before .before .before .before .before .before .before .before .before .before .before .before .before .before .before .loop .inv .0), λ seen₁ asked₁ v. c .before .before .before .before .before .before .before .before .before .before .before .before .before .before .before .before .before .before .before .loop .inv .1 seen₁ asked₁ (visited-pair _ _ _ _ _ (few t (turn t (c .before .before .before .before .before .before .before .before .before))) _ (is-new t (c .before .before .before .before .before .before .before .before .before .before .before .before .before .before)) (in-seen t (c .before .before .before .before .before .before .before .before .before)) _ (is-seen t (c .before .before .before .before .before .before .before .before .before)) _ _ (told t (c .before .before .before .before .before .before .before .before .before) (c .before .before .before .before .before .before .before .form3 .given .1)) (c .visit .ensures) v))
+visit-loop-again-3 t c = (lower-part _ _ _ (named-by (stands t (turn t (c .before .before .before .before .before .before .before .before .before .before .before .before))) _ _ (told t (c .before .before .before .before .before .before .before .before .before .before .before .before) (c .before .before .before .before .before .before .before .before .before .before .form3 .given .1)) .1) (c .before .before .before .before .before .before .before .before .before .before .before .before .before .before .before .before .before .before .before .before .before .before .loop .inv .0), λ seen₁ asked₁ v. c .before .before .before .before .before .before .before .before .before .before .before .before .before .before .before .before .before .before .before .before .before .before .loop .inv .1 seen₁ asked₁ (visited-pair _ _ _ _ _ (few t (turn t (c .before .before .before .before .before .before .before .before .before .before .before .before))) _ (is-new t (c .before .before .before .before .before .before .before .before .before .before .before .before .before .before .before .before .before)) (in-seen t (c .before .before .before .before .before .before .before .before .before .before .before .before)) _ (is-seen t (c .before .before .before .before .before .before .before .before .before .before .before .before)) _ _ (told t (c .before .before .before .before .before .before .before .before .before .before .before .before) (c .before .before .before .before .before .before .before .before .before .before .form3 .given .1)) (c .visit .ensures) v))
+
+visit-visit-requires-2 : (t : ℕ) → visit-lts.Need-visit-requires-2 (claims t) (visit-at t) visit.Post Inv μ
+visit-visit-requires-2 t c κs = let h = lower _ _ _ (named-by (stands t (turn t (c .before .before .before .before .before .before .before .before .before .before .before))) _ _ (told t (c .before .before .before .before .before .before .before .before .before .before .before) (c .before .before .before .before .before .before .before .before .before .form3 .given .1)) .1) (c .before .before .before .before .before .before .before .before .before .before .before .before .before .before .before .before .before .before .before .before .before .loop .inv .0) in
+    (rw (c .before .before .before .before .before .before .before .before .before .before .before .before .before .before .before .before .before .before .before .before .before .before .before .pre .0) at h, (c .before .before .before .before .before .before .before .before .before .before .before .before .before .before .before .before .before .before .before .before .before .before .before .pre .1 .0, omega (arith, h, c .before .before .before .before .before .before .before .before .before .before .before .before .before .before .before .before .before .before .before .before .before .before .before .pre .1 .1)))
+
+visit-loop-less-4 : (t : ℕ) → visit-lts.Need-loop-less-4 (claims t) (visit-at t) visit.Post Inv μ
+visit-loop-less-4 t c = named-by (stands t (turn t (c .before .before .before .before .before .before .before .before .before .before .before .before))) _ _ (told t (c .before .before .before .before .before .before .before .before .before .before .before .before) (c .before .before .before .before .before .before .before .before .before .before .form3 .given .1)) .0
+
+visit-loop-again-4 : (t : ℕ) → visit-lts.Need-loop-again-4 (claims t) (visit-at t) visit.Post Inv μ
+visit-loop-again-4 t c = (lower-part _ _ _ (named-by (stands t (turn t (c .before .before .before .before .before .before .before .before .before .before .before .before))) _ _ (told t (c .before .before .before .before .before .before .before .before .before .before .before .before) (c .before .before .before .before .before .before .before .before .before .before .form3 .given .1)) .0) (c .before .before .before .before .before .before .before .before .before .before .before .before .before .before .before .before .before .before .before .before .before .before .loop .inv .0), λ seen₁ asked₁ v. c .before .before .before .before .before .before .before .before .before .before .before .before .before .before .before .before .before .before .before .before .before .before .loop .inv .1 seen₁ asked₁ (visited-pair-right _ _ _ _ _ (few t (turn t (c .before .before .before .before .before .before .before .before .before .before .before .before))) _ (is-new t (c .before .before .before .before .before .before .before .before .before .before .before .before .before .before .before .before .before)) (in-seen t (c .before .before .before .before .before .before .before .before .before .before .before .before)) _ (is-seen t (c .before .before .before .before .before .before .before .before .before .before .before .before)) _ _ (told t (c .before .before .before .before .before .before .before .before .before .before .before .before) (c .before .before .before .before .before .before .before .before .before .before .form3 .given .1)) (c .visit2 .ensures) v))
 
 visit-enum-known-form-4 : (t : ℕ) → visit-lts.Need-enum-known-form-4 (claims t) (visit-at t) visit.Post Inv μ
 visit-enum-known-form-4 t c = search needs
 
-visit-loop-less-4 : (t : ℕ) → visit-lts.Need-loop-less-4 (claims t) (visit-at t) visit.Post Inv μ
-visit-loop-less-4 t c = named-by (stands t (turn t (c .before .before .before))) _ _ (told t (c .before .before .before) (c .before .form4 .given .1))
+visit-loop-less-5 : (t : ℕ) → visit-lts.Need-loop-less-5 (claims t) (visit-at t) visit.Post Inv μ
+visit-loop-less-5 t c = named-by (stands t (turn t (c .before .before .before))) _ _ (told t (c .before .before .before) (c .before .form4 .given .1))
 
-visit-loop-again-4 : (t : ℕ) → visit-lts.Need-loop-again-4 (claims t) (visit-at t) visit.Post Inv μ
-visit-loop-again-4 t c = (lower-part _ _ _ (named-by (stands t (turn t (c .before .before .before))) _ _ (told t (c .before .before .before) (c .before .form4 .given .1))) (c .before .before .before .before .before .before .before .before .before .before .before .before .before .loop .inv .0), λ seen₁ asked₁ v. c .before .before .before .before .before .before .before .before .before .before .before .before .before .loop .inv .1 seen₁ asked₁ (visited-application _ _ _ _ _ (few t (turn t (c .before .before .before))) _ (is-new t (c .before .before .before .before .before .before .before .before)) (in-seen t (c .before .before .before)) _ (is-seen t (c .before .before .before)) _ _ (told t (c .before .before .before) (c .before .form4 .given .1)) v))
+visit-loop-again-5 : (t : ℕ) → visit-lts.Need-loop-again-5 (claims t) (visit-at t) visit.Post Inv μ
+visit-loop-again-5 t c = (lower-part _ _ _ (named-by (stands t (turn t (c .before .before .before))) _ _ (told t (c .before .before .before) (c .before .form4 .given .1))) (c .before .before .before .before .before .before .before .before .before .before .before .before .before .loop .inv .0), λ seen₁ asked₁ v. c .before .before .before .before .before .before .before .before .before .before .before .before .before .loop .inv .1 seen₁ asked₁ (visited-application _ _ _ _ _ (few t (turn t (c .before .before .before))) _ (is-new t (c .before .before .before .before .before .before .before .before)) (in-seen t (c .before .before .before)) _ (is-seen t (c .before .before .before)) _ _ (told t (c .before .before .before) (c .before .form4 .given .1)) v))
 
 visit-enum-known-form-5 : (t : ℕ) → visit-lts.Need-enum-known-form-5 (claims t) (visit-at t) visit.Post Inv μ
 visit-enum-known-form-5 t c = search needs
@@ -203,9 +213,12 @@ pub +visit-spec : {M : Type 1} → statement M
     (visit-visit-requires t)
     (visit-loop-less-3 t)
     (visit-loop-again-3 t)
-    (visit-enum-known-form-4 t)
+    (visit-visit-requires-2 t)
     (visit-loop-less-4 t)
     (visit-loop-again-4 t)
+    (visit-enum-known-form-4 t)
+    (visit-loop-less-5 t)
+    (visit-loop-again-5 t)
     (visit-enum-known-form-5 t)
     (visit-ask-requires t)
     (visit-returns-4 t)
