@@ -1,88 +1,139 @@
 /*
- * The whole example of examples/whole.hex, solved from C: [a]X against [b]b, where
- * a is atom 0, b is atom 1 and X is variable 0. Then the same with b in the place
- * of X, where the judge says that it holds, and two problems that are refused.
+ * A problem built, solved and judged from C: the whole example of
+ * examples/whole.hex, [a]X against [b]b, where a is atom 0, b is atom 1 and X is
+ * variable 0. Then [a]a against [b]b, where the judge says that it holds, problems
+ * that are refused, and one that its room is too small for.
  *
  *   rt staticlib cheesetrestle
  *   cc -Iinclude -o target/solve-c examples/solve.c target/staticlib/libcheesetrestle.a
  *   target/solve-c
+ *
+ * Or, once tools/install has installed it:
+ *
+ *   cc -o solve-c examples/solve.c $(pkg-config --cflags --libs cheesetrestle)
  */
 #include <stdio.h>
 
 #include "cheesetrestle.h"
 
-static const uint8_t whole[] = {
-    0x01, 0, 6, 2, 1, 0, 0, 0, 100, /* 2 atoms, 1 variable, at most 100 steps */
-    0x15, 0, 1, 0,                  /* node 0: X */
-    0x12, 0, 3, 0, 0, 0,            /* node 1: [a]X */
-    0x11, 0, 1, 1,                  /* node 2: b */
-    0x12, 0, 3, 1, 0, 2,            /* node 3: [b]b */
-    0x20, 0, 4, 0, 1, 0, 3,         /* [a]X against [b]b */
-};
+static uint8_t bytes[256];
 
-static const uint8_t renamed[] = {
-    0x01, 0, 6, 2, 0, 0, 0, 0, 100, /* 2 atoms, no variable, at most 100 steps */
-    0x11, 0, 1, 0,                  /* node 0: a */
-    0x12, 0, 3, 0, 0, 0,            /* node 1: [a]a */
-    0x11, 0, 1, 1,                  /* node 2: b */
-    0x12, 0, 3, 1, 0, 2,            /* node 3: [b]b */
-    0x20, 0, 4, 0, 1, 0, 3,         /* [a]a against [b]b */
-};
-
-static const uint8_t clash[] = {
-    0x01, 0, 6, 2, 0, 0, 0, 0, 100, /* 2 atoms, no variable, at most 100 steps */
-    0x11, 0, 1, 0,                  /* node 0: a */
-    0x11, 0, 1, 1,                  /* node 1: b */
-    0x20, 0, 4, 0, 0, 0, 0,         /* a against a */
-    0x20, 0, 4, 0, 0, 0, 1,         /* a against b */
-};
-
-/* The fields of an answer, one on a line. */
-static void print_answer(const uint8_t *answer, size_t length)
+/* [a]s against [b]b; s is X or a. */
+static struct cheesetrestle_problem binders(int with_variable, size_t room)
 {
-    size_t at = 0;
+    struct cheesetrestle_problem problem;
+    unsigned s, b, left, right;
 
-    while (at < length) {
-        size_t size = (size_t)answer[at + 1] << 8 | answer[at + 2], i;
-        const uint8_t *body = answer + at + 3;
+    cheesetrestle_problem_begin(&problem, bytes, room, 2, with_variable ? 1 : 0, 100);
+    s = with_variable ? cheesetrestle_add_suspension(&problem, 0, NULL, 0) : cheesetrestle_add_atom(&problem, 0);
+    left = cheesetrestle_add_abstraction(&problem, 0, s);
+    b = cheesetrestle_add_atom(&problem, 1);
+    right = cheesetrestle_add_abstraction(&problem, 1, b);
+    cheesetrestle_add_equation(&problem, left, right);
+    return problem;
+}
 
-        if (answer[at] == 0x4E) {
-            printf("  steps %lu\n", (unsigned long)body[0] << 24 | (unsigned long)body[1] << 16 | (unsigned long)body[2] << 8 | body[3]);
-        } else if (answer[at] == 0x40) {
-            printf("  variable %d is node %d, its atoms becoming", body[0], body[1] << 8 | body[2]);
-            for (i = 3; i < size; i++)
-                printf(" %d", body[i]);
+/* (a b)X against X, then a against a and a against the symbol 7 on a. */
+static struct cheesetrestle_problem clash(void)
+{
+    static const uint8_t swap[] = {0, 1};
+    struct cheesetrestle_problem problem;
+    unsigned x, swapped, a, applied;
+
+    cheesetrestle_problem_begin(&problem, bytes, sizeof bytes, 2, 1, 100);
+    x = cheesetrestle_add_suspension(&problem, 0, NULL, 0);
+    swapped = cheesetrestle_add_suspension(&problem, 0, swap, 1);
+    a = cheesetrestle_add_atom(&problem, 0);
+    applied = cheesetrestle_add_application(&problem, 7, a);
+    cheesetrestle_add_equation(&problem, swapped, x);
+    cheesetrestle_add_equation(&problem, a, a);
+    cheesetrestle_add_equation(&problem, a, applied);
+    return problem;
+}
+
+/* The pair of X and Y against that of Y and (a b)Y, Y protected, b assumed fresh for Y; and a fresh for the pair. */
+static struct cheesetrestle_problem facts(void)
+{
+    static const uint8_t swap[] = {0, 1};
+    struct cheesetrestle_problem problem;
+    unsigned x, y, swapped, left, right;
+
+    cheesetrestle_problem_begin(&problem, bytes, sizeof bytes, 2, 2, 100);
+    x = cheesetrestle_add_suspension(&problem, 0, NULL, 0);
+    y = cheesetrestle_add_suspension(&problem, 1, NULL, 0);
+    swapped = cheesetrestle_add_suspension(&problem, 1, swap, 1);
+    left = cheesetrestle_add_pair(&problem, x, y);
+    right = cheesetrestle_add_pair(&problem, y, swapped);
+    cheesetrestle_add_equation(&problem, left, right);
+    cheesetrestle_add_freshness(&problem, 0, left);
+    cheesetrestle_add_assumption(&problem, 1, 1);
+    cheesetrestle_add_protected(&problem, 1);
+    return problem;
+}
+
+static void print_answer(const uint8_t *answer_bytes, size_t length)
+{
+    struct cheesetrestle_answer answer;
+    struct cheesetrestle_field field;
+    unsigned i;
+
+    cheesetrestle_answer_begin(&answer, answer_bytes, length);
+    while (cheesetrestle_answer_next(&answer, &field)) {
+        switch (field.tag) {
+        case CHEESETRESTLE_STEPS:
+            printf("  steps %lu\n", (unsigned long)field.steps);
+            break;
+        case CHEESETRESTLE_BINDING:
+            printf("  variable %u is node %u, its atoms becoming", field.variable, field.node);
+            for (i = 0; i < field.atoms; i++)
+                printf(" %u", field.images[i]);
             printf("\n");
-        } else {
-            printf("  on condition that atom %d is fresh for variable %d\n", body[0], body[1]);
+            break;
+        case CHEESETRESTLE_FACT:
+            printf("  on condition that atom %u is fresh for variable %u\n", field.atom, field.variable);
+            break;
         }
-        at += 3 + size;
     }
 }
 
-/* Solves and judges a problem, both with lent tables and without: what is given back is the same. */
-static void tell(const char *name, const uint8_t *problem, size_t length, size_t room)
+static void print_given(const char *who, uint64_t given)
+{
+    unsigned number = cheesetrestle_number(given), place = cheesetrestle_place(given);
+
+    printf("  %s: %u at %u, %s\n", who, number, place, cheesetrestle_message(number));
+}
+
+/* Solves and judges a problem with lent tables; `room` is the output's. */
+static void tell(const char *name, struct cheesetrestle_problem problem, size_t room)
 {
     static struct cheesetrestle_tables tables;
-    static uint8_t output[CHEESETRESTLE_ANSWER_ROOM], other[CHEESETRESTLE_ANSWER_ROOM];
-    uint64_t solved = cheesetrestle_solve(problem, length, output, room);
-    uint64_t judged = cheesetrestle_judge(problem, length);
+    static uint8_t output[CHEESETRESTLE_ANSWER_ROOM];
+    unsigned fault = cheesetrestle_problem_fault(&problem);
+    uint64_t solved;
 
-    printf("%s: solver %lu %lu, judge %lu %lu\n", name, (unsigned long)cheesetrestle_number(solved),
-           (unsigned long)cheesetrestle_place(solved), (unsigned long)cheesetrestle_number(judged),
-           (unsigned long)cheesetrestle_place(judged));
-    if (cheesetrestle_number(solved) == 0)
+    printf("%s, %lu bytes\n", name, (unsigned long)problem.length);
+    if (fault != 0) {
+        printf("  not built: %s\n", cheesetrestle_message(fault));
+        return;
+    }
+    solved = cheesetrestle_solve_lent(problem.bytes, problem.length, output, room, &tables);
+    print_given("solver", solved);
+    if (cheesetrestle_number(solved) == CHEESETRESTLE_ACCEPTED)
         print_answer(output, cheesetrestle_place(solved));
-    if (cheesetrestle_solve_lent(problem, length, other, room, &tables) != solved || cheesetrestle_judge_lent(problem, length, &tables) != judged)
-        printf("  lent tables give another result\n");
+    print_given("judge", cheesetrestle_judge_lent(problem.bytes, problem.length, &tables));
 }
 
 int main(void)
 {
-    tell("whole example", whole, sizeof whole, CHEESETRESTLE_ANSWER_ROOM);
-    tell("renamed binder", renamed, sizeof renamed, CHEESETRESTLE_ANSWER_ROOM);
-    tell("clash in equation 1", clash, sizeof clash, CHEESETRESTLE_ANSWER_ROOM);
-    tell("too little room", whole, sizeof whole, 3);
-    tell("cut short", whole, sizeof whole - 1, CHEESETRESTLE_ANSWER_ROOM);
+    if (cheesetrestle_version() != CHEESETRESTLE_VERSION_NUMBER) {
+        printf("the archive is not of the header's version, " CHEESETRESTLE_VERSION "\n");
+        return 1;
+    }
+    tell("whole example", binders(1, sizeof bytes), CHEESETRESTLE_ANSWER_ROOM);
+    tell("renamed binder", binders(0, sizeof bytes), CHEESETRESTLE_ANSWER_ROOM);
+    tell("clash in equation 2", clash(), CHEESETRESTLE_ANSWER_ROOM);
+    tell("facts", facts(), CHEESETRESTLE_ANSWER_ROOM);
+    tell("too little room for the answer", binders(1, sizeof bytes), 3);
+    tell("too little room for the problem", binders(1, 35), CHEESETRESTLE_ANSWER_ROOM);
     return 0;
 }

@@ -1,15 +1,23 @@
 /*
  * Cheesetrestle for C: the solver and the judge of libcheesetrestle.a, which
  * `rt staticlib cheesetrestle` proves and writes to target/staticlib/ (x86-64).
+ * C99, and C++ as well.
  *
  * Each entry is proved to give the definition's number and place, and to leave
  * the output as the definition does, on every input, every output and whatever
  * the tables hold (docs/PROVED.md). None asks for memory, keeps state or touches
  * anything but what is lent.
  *
- * What C has to see to: no pointer is null; a pointer with a length leads to
- * that many bytes; what is lent for writing (the output, each table) overlaps
- * nothing else that is lent to the same call.
+ * What C has to see to:
+ *
+ *   pointers   One with a length leads to that many bytes; with length 0 it may
+ *              be null. No other is null.
+ *   overlap    What is lent for writing (the output, each table) overlaps
+ *              nothing else that is lent to the same call.
+ *   alignment  A table is aligned as its element type is; bytes stand anywhere.
+ *   threads    Any number of calls may run at once, as long as none is lent for
+ *              writing what another one is lent. A signal handler may call too.
+ *   stack      CHEESETRESTLE_STACK or CHEESETRESTLE_STACK_LENT, below.
  */
 #ifndef CHEESETRESTLE_H
 #define CHEESETRESTLE_H
@@ -17,12 +25,36 @@
 #include <stddef.h>
 #include <stdint.h>
 
+#include "cheesetrestle_answer.h"
+#include "cheesetrestle_numbers.h"
+#include "cheesetrestle_problem.h"
+
 #ifdef __cplusplus
 extern "C" {
 #endif
 
+/* The header's version. */
+#define CHEESETRESTLE_VERSION "0.1.0"
+#define CHEESETRESTLE_VERSION_MAJOR 0
+#define CHEESETRESTLE_VERSION_MINOR 1
+#define CHEESETRESTLE_VERSION_PATCH 0
+#define CHEESETRESTLE_VERSION_NUMBER \
+    (10000 * CHEESETRESTLE_VERSION_MAJOR + 100 * CHEESETRESTLE_VERSION_MINOR + CHEESETRESTLE_VERSION_PATCH)
+
+/* The archive's version: CHEESETRESTLE_VERSION_NUMBER, if the two belong together. */
+uint32_t cheesetrestle_version(void);
+
 /* No answer is longer: an output of this size is never too short. */
 #define CHEESETRESTLE_ANSWER_ROOM 16384
+
+/* The stack that a call takes, with a tenth or more to spare: cheesetrestle_solve
+ * and cheesetrestle_judge, whose tables are on it, and the four over lent tables.
+ * It was measured, on stacks that had been filled before and on the deepest
+ * problems that can be built; README.md has what each entry took. One function of
+ * the archive calls itself, at most 256 deep and 96 bytes each time; nothing else
+ * grows with the problem. What a signal handler takes comes on top. */
+#define CHEESETRESTLE_STACK 106496
+#define CHEESETRESTLE_STACK_LENT 28672
 
 /* What the solver and the judge work in. The content does not matter, neither
  * before nor after a call; one call at a time may use it. */
@@ -49,34 +81,42 @@ struct cheesetrestle_tables {
     uint8_t first_variables[2048];
 };
 
-/*
- * What every entry gives back is one word: a number in its high half, a place in
- * its low half (at most 65,535).
- *
- *    0  accepted; place: the answer's length. From the judge: holds; place 0
- *    1  the input is over 65,535 bytes; place 0
- *    2  no good head, or an empty input; place 0
- *    3  a field is cut short; place of 3 to 7: the field's offset
- *    4  unknown tag
- *    5  wrong length for its tag
- *    6  too many nodes, equations or freshness fields
- *    7  an atom, a variable or a node that is not there
- *    8  the step limit is reached; place of 8 to 11: the equation's number
- *    9  clash (solver)
- *   10  a variable inside its own value (solver)
- *   11  a protected variable would be bound (solver)
- *   12  an atom is not fresh (solver); place 0
- *   13  the answer is longer than the lent output (solver); place: its length
- *   14  does not hold (judge); place 0
- *
- * docs/FORMAT.md has the problem's and the answer's bytes.
- */
-static inline uint32_t cheesetrestle_number(uint64_t given) { return (uint32_t)(given >> 32); }
-static inline uint32_t cheesetrestle_place(uint64_t given) { return (uint32_t)given; }
+/* The archive takes each table to have this many bytes: where one has not, this
+ * does not compile. */
+#define CHEESETRESTLE_TAKES(table, bytes) \
+    typedef char cheesetrestle_takes_##table[sizeof ((struct cheesetrestle_tables *)0)->table == (bytes) ? 1 : -1]
+CHEESETRESTLE_TAKES(node_variables, 4096);
+CHEESETRESTLE_TAKES(assumed, 256);
+CHEESETRESTLE_TAKES(asked_nodes, 2048);
+CHEESETRESTLE_TAKES(asked_variables, 256);
+CHEESETRESTLE_TAKES(seen, 2048);
+CHEESETRESTLE_TAKES(done, 256);
+CHEESETRESTLE_TAKES(places, 1024);
+CHEESETRESTLE_TAKES(equation_places, 128);
+CHEESETRESTLE_TAKES(fresh_places, 128);
+CHEESETRESTLE_TAKES(lefts, 1152);
+CHEESETRESTLE_TAKES(rights, 1152);
+CHEESETRESTLE_TAKES(roots, 128);
+CHEESETRESTLE_TAKES(numbers, 576);
+CHEESETRESTLE_TAKES(left_images, 18432);
+CHEESETRESTLE_TAKES(right_images, 18432);
+CHEESETRESTLE_TAKES(order, 64);
+CHEESETRESTLE_TAKES(value_images, 2048);
+CHEESETRESTLE_TAKES(made_by, 64);
+CHEESETRESTLE_TAKES(first_nodes, 16384);
+CHEESETRESTLE_TAKES(first_variables, 2048);
+#undef CHEESETRESTLE_TAKES
+typedef char cheesetrestle_tables_take[sizeof(struct cheesetrestle_tables) == 70720 ? 1 : -1];
 
-/* The solver. With 0 the output starts with the answer and its other bytes are
- * as they were; with any other number all of it is as it was. Its tables, 70,720
- * bytes, are on the stack and cleared at each call: who solves often lends them. */
+/* What every entry gives back is one word: one of the numbers of
+ * cheesetrestle_numbers.h in its high half, a place in its low half. */
+static inline uint32_t cheesetrestle_number(uint64_t given) { return (uint32_t)(given >> 32); }
+static inline uint32_t cheesetrestle_place(uint64_t given) { return (uint32_t)(given & 0xFFFFFFFFu); }
+
+/* The solver. With CHEESETRESTLE_ACCEPTED the output starts with the answer and
+ * its other bytes are as they were; with any other number all of it is as it
+ * was. Its tables are on the stack and cleared at each call: who solves often
+ * lends them. */
 uint64_t cheesetrestle_solve(const uint8_t *input, size_t input_length, uint8_t *output, size_t output_length);
 
 /* The judge: whether the problem's equations and freshness fields follow from

@@ -13,6 +13,15 @@ fn joined(number: u8, place: usize) -> u64
     (number as u64) * 4294967296 + (place as u64)
 }
 
+// The archive's version in one number: 10000 times the major, 100 times the minor and the patch number. The header has the same, so that a caller can see
+// whether the two belong together.
+#[no_mangle]
+pub extern "C" fn cheesetrestle_version() -> u32
+    ensures { λ r. ⌜ r ≡ 100 ⌝ }
+{
+    100
+}
+
 // The solver over lent work tables with any content.
 #[no_mangle]
 pub extern "C" fn cheesetrestle_solve_with(
