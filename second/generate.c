@@ -5,15 +5,17 @@
  *                                      length in four bytes, high byte first
  *   generate --family NAME SEED COUNT  the same, all problems of one family
  *   generate --census SEED COUNT       no stream; on standard error how often each
- *                                      solver number and judge number occurs; ends
- *                                      with 1 if a number does not occur
+ *                                      solver number and judge number occurs, and
+ *                                      how often certain things matter; ends with 1
+ *                                      if one of them does in less than one problem
+ *                                      of 100
  *
  * The same seed gives the same bytes on every machine: all choices come from one
  * 64-bit generator, and no expression draws from it twice, since C leaves the
  * order of arguments open. Problem number i depends on the seed and on i alone.
  *
  * Some step limits are huge, but no problem takes more than a million steps: see
- * `tame`, which runs the second program's solver and judge.
+ * `tame`, which runs the second program's solver and judge. Few take over 65,535.
  */
 
 #define WITHOUT_PROGRAM
@@ -24,6 +26,10 @@
  * ------------------------------------------------------------------------ */
 
 static uint64_t random_state;
+
+/* How many problems of the same family came before: kinds that are taken in turn
+ * come equally often. */
+static uint64_t turn;
 
 static uint64_t mixed(uint64_t number)
 {
@@ -49,11 +55,17 @@ static int chance(unsigned percent)
     return below(100) < percent;
 }
 
+/* 0 to count - 1, in turn. */
+static unsigned in_turn(unsigned count)
+{
+    return (unsigned)(turn % count);
+}
+
 /* ------------------------------------------------------------------------
  * The problem that is being made
  * ------------------------------------------------------------------------ */
 
-enum { MADE_ROOM = 90000, HUGE_LIMIT_CAP = 1000000, USUAL_CAP = 20000 };
+enum { MADE_ROOM = 90000, MOST_SWAPS = 32, HUGE_LIMIT_CAP = 1000000, USUAL_CAP = 20000 };
 
 static struct {
     unsigned char bytes[MADE_ROOM];
@@ -63,6 +75,7 @@ static struct {
     unsigned nodes;
     unsigned equations;
     unsigned freshness_fields;
+    unsigned lowest_atom;
     unsigned lowest_variable;
     uint32_t cap;
 } made;
@@ -85,6 +98,14 @@ static void put_field(unsigned tag, unsigned length)
     put_two(length);
 }
 
+static void set_limit(uint32_t limit)
+{
+    made.bytes[5] = (unsigned char)(limit >> 24);
+    made.bytes[6] = (unsigned char)(limit >> 16);
+    made.bytes[7] = (unsigned char)(limit >> 8);
+    made.bytes[8] = (unsigned char)limit;
+}
+
 /* Writes the head of a new problem. */
 static void start(unsigned atoms, unsigned variables, uint32_t limit)
 {
@@ -94,13 +115,14 @@ static void start(unsigned atoms, unsigned variables, uint32_t limit)
     made.nodes = 0;
     made.equations = 0;
     made.freshness_fields = 0;
+    made.lowest_atom = 0;
     made.lowest_variable = 0;
     made.cap = USUAL_CAP;
     put_field(TAG_HEAD, 6);
     put(atoms);
     put(variables);
-    put_two(limit >> 16);
-    put_two(limit & 65535);
+    made.length += 4;
+    set_limit(limit);
 }
 
 /* With 512 nodes made, the last one stands for every further one. */
@@ -204,12 +226,27 @@ static void add_protected(unsigned variable)
 
 static unsigned some_atom(void)
 {
-    return below(made.atoms);
+    return made.lowest_atom + below(made.atoms - made.lowest_atom);
 }
 
 static unsigned some_variable(void)
 {
     return made.lowest_variable + below(made.variables - made.lowest_variable);
+}
+
+/* Few atoms and variables: the first ones, or the last ones of 32 and of 64. Their
+ * nodes come first, or behind so many others that numbers need two bytes. */
+static void start_anywhere(unsigned atoms, unsigned variables, uint32_t limit)
+{
+    unsigned first_atom = atoms > 0 && chance(40) ? MOST_ATOMS - atoms : 0;
+    unsigned first_variable = variables > 0 && chance(40) ? MOST_VARIABLES - variables : 0;
+    unsigned others = chance(24) ? 250 + below(10) : 0;
+
+    start(first_atom + atoms, first_variable + variables, limit);
+    made.lowest_atom = first_atom;
+    made.lowest_variable = first_variable;
+    while (made.nodes < others)
+        add_unit();
 }
 
 static void random_swaps(uint8_t *swaps, unsigned count)
@@ -218,6 +255,12 @@ static void random_swaps(uint8_t *swaps, unsigned count)
 
     for (i = 0; i < 2 * count; i++)
         swaps[i] = (uint8_t)some_atom();
+}
+
+/* Few swaps, or as many as there may be. */
+static unsigned some_swap_count(void)
+{
+    return chance(20) ? MOST_SWAPS : 1 + below(4);
 }
 
 static unsigned add_random_suspension(unsigned variable, unsigned most_swaps)
@@ -520,9 +563,35 @@ static uint32_t some_limit(void)
         return below(12);
     if (kind < 84)
         return UINT32_C(4294967295);
-    if (kind < 90)
+    if (kind < 87)
         return UINT32_C(0x80000000);
+    if (kind < 89)
+        return UINT32_C(16777216) * (1 + below(255));
+    if (kind < 91)
+        return UINT32_C(65536) * (1 + below(65535));
     return 20 + below(80);
+}
+
+/* The limit of a readable problem becomes as many steps as the solver takes, or the
+ * judge, or one step less or more. */
+static void set_limit_at_the_edge(void)
+{
+    static unsigned char answer[OUTPUT_ROOM];
+    int of_solver = chance(70);
+    unsigned kind = below(5);
+    uint64_t place;
+
+    set_limit(made.cap);
+    if (of_solver)
+        solve(made.bytes, made.length, answer, sizeof answer, &place);
+    else
+        judge(made.bytes, made.length, &place);
+    if (kind < 2)
+        set_limit(run.steps);
+    else if (kind < 4)
+        set_limit(run.steps > 0 ? run.steps - 1 : 0);
+    else
+        set_limit(run.steps + 1);
 }
 
 /* One equation of two sides that are both related to the term. */
@@ -559,7 +628,7 @@ static void add_protection(unsigned percent)
 {
     unsigned variable;
 
-    for (variable = 0; variable < made.variables; variable++)
+    for (variable = made.lowest_variable; variable < made.variables; variable++)
         if (chance(percent))
             add_protected(variable);
 }
@@ -594,14 +663,14 @@ static void add_random_freshness(unsigned count)
 }
 
 /* Put the facts that the problem needs with all variables protected into it as
- * assumptions, sometimes all but one. */
+ * assumptions; sometimes one of them is missing, or is about another atom. */
 static void assume_needed_facts(void)
 {
     static unsigned char trial[MADE_ROOM + 4 * MOST_VARIABLES];
     static unsigned char answer[OUTPUT_ROOM];
     size_t length = made.length;
     size_t offset = 7;
-    unsigned dropped = chance(35) ? below(4) : NO_NODE;
+    unsigned dropped = chance(50) ? below(3) : NO_NODE;
     unsigned variable;
     uint64_t place;
 
@@ -618,6 +687,8 @@ static void assume_needed_facts(void)
     for (; offset < place; offset += 5)
         if (dropped-- != 0)
             add_assumption(answer[offset + 3], answer[offset + 4]);
+        else if (chance(50))
+            add_assumption(some_atom(), answer[offset + 4]);
 }
 
 static void make_small(void)
@@ -629,7 +700,7 @@ static void make_small(void)
     unsigned equations = chance(6) ? 0 : 1 + below(3);
     unsigned protection = protections[below(sizeof protections)];
 
-    start(atoms, variables, limit);
+    start_anywhere(atoms, variables, limit);
     if (chance(30))
         add_protection(protection);
     for (; equations > 0; equations--) {
@@ -649,6 +720,8 @@ static void make_small(void)
         add_random_assumptions(1 + below(4));
     if (chance(25))
         assume_needed_facts();
+    if (chance(20))
+        set_limit_at_the_edge();
 }
 
 /* All sides are equal up to renamed binders; the judge often says yes. */
@@ -656,10 +729,10 @@ static void make_twins(void)
 {
     static const Changes twins[] = {{70, 0, 0}, {100, 0, 0}, {30, 0, 1}};
     unsigned atoms = 1 + below(6);
-    unsigned variables = below(4);
+    unsigned variables = chance(10) ? 0 : 1 + below(2);
     unsigned equations = 1 + below(3);
 
-    start(atoms, variables, 100 + below(200));
+    start_anywhere(atoms, variables, 100 + below(200));
     for (; equations > 0; equations--) {
         unsigned depth = 1 + below(4);
         unsigned relation = below(3);
@@ -670,8 +743,42 @@ static void make_twins(void)
         add_random_freshness(1);
     if (chance(80))
         assume_needed_facts();
+    if (chance(60))
+        add_random_assumptions(1);
     if (chance(10))
         add_protection(50);
+    if (chance(20))
+        set_limit_at_the_edge();
+}
+
+/* The term under a list of swaps, the rightmost first. */
+static unsigned under_swaps(unsigned term, const uint8_t *swaps, unsigned count)
+{
+    while (count-- > 0)
+        term = swapped(term, swaps[2 * count], swaps[2 * count + 1]);
+    return term;
+}
+
+/* The equation of a variable under swaps and a term, which becomes the variable's
+ * value: the term under the list's inverse, that is, the leftmost swap first. */
+static unsigned add_value(unsigned variable, unsigned *term)
+{
+    uint8_t swaps[2 * MOST_ATOMS];
+    unsigned count = some_swap_count();
+    unsigned left;
+    unsigned right;
+    unsigned i;
+
+    random_swaps(swaps, count);
+    left = add_suspension(variable, swaps, count);
+    right = emitted(*term, 0);
+    if (chance(50))
+        add_equation(left, right);
+    else
+        add_equation(right, left);
+    for (i = 0; i < count; i++)
+        *term = swapped(*term, swaps[2 * i], swaps[2 * i + 1]);
+    return left;
 }
 
 /* Suspensions, mostly: chains of variables, cycles, values under swaps. */
@@ -679,17 +786,21 @@ static void make_suspensions(void)
 {
     unsigned atoms = below(6);
     unsigned variables = 1 + below(6);
-    unsigned equations = 1 + below(6);
+    unsigned equations = 1 + below(4);
     uint32_t limit = some_limit();
 
-    start(atoms, variables, limit);
+    start_anywhere(atoms, variables, limit);
     for (; equations > 0; equations--) {
         unsigned variable = some_variable();
         unsigned left = add_random_suspension(variable, 3);
         unsigned depth = chance(60) ? 0 : 1 + below(2);
         unsigned term = random_term(depth);
-        unsigned right = emitted(term, 0);
+        unsigned right = chance(15) ? add_random_suspension(variable, 3) : emitted(term, 0);
 
+        if (chance(50)) {
+            left = add_pair(add_random_suspension(some_variable(), 2), left);
+            right = add_pair(add_random_suspension(some_variable(), 2), right);
+        }
         if (chance(50))
             add_equation(left, right);
         else
@@ -700,6 +811,216 @@ static void make_suspensions(void)
     if (chance(40))
         add_random_assumptions(1 + below(3));
     add_protection(chance(20) ? 30 : 0);
+    if (chance(20))
+        set_limit_at_the_edge();
+}
+
+/* A side under so many binders. */
+static unsigned add_binders(unsigned node, unsigned count)
+{
+    for (; count > 0; count--)
+        node = add_abstraction(some_atom(), node);
+    return node;
+}
+
+/* A variable that has a value is met under other swaps: against what it has to be,
+ * against where it got its value, or against another variable; sometimes below
+ * binders. */
+static void meet_value(unsigned variable, unsigned value, unsigned node)
+{
+    uint8_t swaps[2 * MOST_SWAPS];
+    unsigned count = some_swap_count();
+    unsigned kind = below(4);
+    unsigned binders = chance(50) ? 1 + below(3) : 0;
+    unsigned again;
+    unsigned other;
+
+    random_swaps(swaps, count);
+    again = add_binders(add_suspension(variable, swaps, count), binders);
+    if (kind == 0)
+        node = emitted(under_swaps(value, swaps, count), 0);
+    else if (kind > 1)
+        node = add_random_suspension(made.lowest_variable - 1, 3);
+    other = add_binders(node, binders);
+    if (chance(50))
+        add_equation(again, other);
+    else
+        add_equation(other, again);
+}
+
+/* A variable gets a value under swaps, after another variable has become that
+ * variable; then both are met again. The value has neither of them, nor the third
+ * variable, which they are met with. */
+static void make_values(void)
+{
+    unsigned atoms = 3 + below(3);
+    unsigned variables = 4 + below(3);
+    unsigned variable;
+    unsigned count;
+    unsigned node;
+    unsigned term;
+
+    start_anywhere(atoms, variables, chance(80) ? 200 : some_limit());
+    variable = made.lowest_variable;
+    made.lowest_variable += 3;
+    term = random_term(1 + below(3));
+    node = add_random_suspension(variable, 0);
+    add_equation(add_random_suspension(variable + 1, 0), node);
+    if (chance(30))
+        add_equation(add_random_suspension(variable, 3), node);
+    node = add_value(variable, &term);
+    for (count = 1 + below(3); count > 0; count--)
+        meet_value(variable + below(2), term, node);
+    for (count = 1 + below(3); count > 0; count--)
+        add_freshness(some_atom(), node);
+    if (chance(40))
+        add_assumption(some_atom(), variable);
+}
+
+/* ------------------------------------------------------------------------
+ * Problems in which one thing matters
+ * ------------------------------------------------------------------------ */
+
+/* Two applications whose symbols differ in one bit, inside terms that are equal. */
+static void make_symbols(void)
+{
+    unsigned kind = in_turn(3);
+    unsigned bit = kind == 0 ? 15 : kind == 1 ? below(8) : 8 + below(7);
+    unsigned symbol = below(65536);
+    unsigned depth = below(4);
+    unsigned atoms = 1 + below(3);
+    unsigned argument;
+    unsigned left;
+    unsigned right;
+
+    start_anywhere(atoms, 2, 100);
+    argument = emitted(random_term(1 + below(2)), 0);
+    left = add_application(symbol, argument);
+    right = add_application(symbol ^ 1u << bit, argument);
+    for (; depth > 0; depth--) {
+        unsigned atom = some_atom();
+
+        kind = below(3);
+        left = kind == 0 ? add_abstraction(atom, left)
+            : kind == 1 ? add_pair(argument, left) : add_pair(left, argument);
+        right = kind == 0 ? add_abstraction(atom, right)
+            : kind == 1 ? add_pair(argument, right) : add_pair(right, argument);
+    }
+    if (chance(50))
+        add_equation(argument, argument);
+    add_equation(left, right);
+}
+
+/* A variable inside its own value: in a pair's right part, under a binder, or
+ * behind a binding. */
+static void make_cycles(void)
+{
+    unsigned kind = in_turn(3);
+    unsigned atoms = 1 + below(3);
+    unsigned variable;
+    unsigned left;
+    unsigned right;
+
+    start_anywhere(atoms, 2, 100);
+    variable = made.lowest_variable;
+    left = add_random_suspension(variable, 2);
+    right = add_random_suspension(variable + (kind == 2), 2);
+    if (kind == 0)
+        right = add_pair(add_unit(), right);
+    else if (kind == 1)
+        right = add_abstraction(some_atom(), right);
+    else
+        right = add_application(0, right);
+    if (chance(50))
+        add_equation(left, right);
+    else
+        add_equation(right, left);
+    if (kind == 2) {
+        right = add_random_suspension(variable + 1, 2);
+        left = add_pair(left, left);
+        add_equation(right, left);
+    }
+}
+
+/* Atom 31 against another atom, in a disagreement set of which some may be assumed,
+ * or demanded fresh below a binder. */
+static void make_last_atom(void)
+{
+    static const uint8_t swap[] = {MOST_ATOMS - 1, MOST_ATOMS - 2};
+    unsigned kind = in_turn(3);
+    unsigned left;
+    unsigned right;
+
+    start(MOST_ATOMS, 1 + below(MOST_VARIABLES), 100);
+    made.lowest_atom = MOST_ATOMS - 4;
+    made.lowest_variable = made.variables - 1;
+    left = kind == 0 ? add_atom(MOST_ATOMS - 1) : add_random_suspension(some_variable(), 2);
+    right = kind == 0 ? add_atom(some_atom()) : add_suspension(some_variable(), swap, 1);
+    if (kind == 2)
+        add_freshness(MOST_ATOMS - 1, add_abstraction(some_atom(), left));
+    else
+        add_equation(left, right);
+    if (kind == 1)
+        add_random_assumptions(below(3));
+}
+
+/* A protected variable from 8 up, against a term or against a variable that is not
+ * protected; sometimes the variable 32 below it is bound too. */
+static void make_protected(void)
+{
+    unsigned kind = in_turn(4);
+    unsigned variables = chance(60) ? MOST_VARIABLES : 9 + below(56);
+    unsigned variable = chance(60) ? variables - 1 : 8 + below(variables - 8);
+    unsigned other = below(variable);
+    unsigned unit;
+    unsigned left;
+    unsigned right;
+
+    start(1 + below(MOST_ATOMS), variables, 100);
+    if (chance(50))
+        add_protected(variable);
+    unit = add_unit();
+    left = add_random_suspension(variable, 3);
+    right = kind < 2 ? add_random_suspension(other, 3) : unit;
+    if (kind == 3)
+        right = add_abstraction(some_atom(), right);
+    if (variable >= 32 && chance(50))
+        add_equation(unit, add_random_suspension(variable - 32, 1));
+    if (chance(50))
+        add_equation(left, right);
+    else
+        add_equation(right, left);
+    add_protected(variable);
+}
+
+/* Over 65,535 steps: 15 pairs of a node with itself, one inside the other, take
+ * 65,535 of them, and each equation beside takes one. */
+static void make_long_run(void)
+{
+    static const uint32_t limits[] = {
+        UINT32_C(4294967295), UINT32_C(2147483648), UINT32_C(2147483647),
+        UINT32_C(16777216), UINT32_C(131072), UINT32_C(65536)
+    };
+    uint32_t limit = limits[in_turn(sizeof limits / sizeof limits[0])];
+    unsigned others = 1 + below(6);
+    unsigned atoms = 1 + below(3);
+    unsigned depth = 15;
+    unsigned leaf;
+    unsigned node;
+
+    start_anywhere(atoms, 2, limit);
+    made.cap = HUGE_LIMIT_CAP;
+    leaf = chance(50) ? add_random_suspension(made.lowest_variable, 2) : add_unit();
+    node = leaf;
+    for (; depth > 0; depth--)
+        node = add_pair(node, node);
+    if (chance(25))
+        add_equation(add_random_suspension(made.lowest_variable + 1, 2), node);
+    add_equation(node, node);
+    while (made.equations <= others)
+        add_equation(leaf, leaf);
+    if (chance(25))
+        set_limit_at_the_edge();
 }
 
 /* ------------------------------------------------------------------------
@@ -1450,6 +1771,198 @@ static void make_malformed(void)
 }
 
 /* ------------------------------------------------------------------------
+ * The reader's edges
+ * ------------------------------------------------------------------------ */
+
+/* The longest input that is read, or one byte more, with or without a good head. */
+static void make_longest(size_t wanted)
+{
+    unsigned variables = 9 + below(56);
+
+    start(1, variables, 100);
+    add_random_suspension(some_variable(), 0);
+    add_unit();
+    add_equation(0, 1);
+    /* Fields of five bytes until fields of four bytes reach the length. */
+    while ((wanted - made.length) % 4 != 0)
+        add_random_assumptions(1);
+    while (made.length < wanted)
+        add_protected(some_variable());
+}
+
+static void make_65535_bytes(void)
+{
+    make_longest(MOST_BYTES);
+}
+
+static void make_65536_bytes(void)
+{
+    make_longest(MOST_BYTES + 1);
+    if (chance(70))
+        made.bytes[0] = (unsigned char)some_tag();
+}
+
+static void make_33_atoms(void)
+{
+    make_base();
+    made.bytes[3] = MOST_ATOMS + 1;
+}
+
+static void make_65_variables(void)
+{
+    make_base();
+    made.bytes[4] = MOST_VARIABLES + 1;
+}
+
+/* A head that is too long by some bytes, which are there. */
+static void make_long_head(void)
+{
+    unsigned more = 1 + below(3);
+
+    make_base();
+    insert_bytes(9, more);
+    set_length_at(0, 6 + more);
+}
+
+/* No head, and cut short. */
+static void make_cut_without_head(void)
+{
+    make_base();
+    made.bytes[0] = (unsigned char)(chance(50) ? TAG_UNIT : some_tag());
+    if (chance(50))
+        made.length = 1 + below(8);
+    else
+        set_length_at(0, made.length);
+}
+
+static void make_second_head(void)
+{
+    make_base();
+    insert_second_head();
+}
+
+/* A field after the last one that is allowed, which has another fault too. */
+static void fill_and_spoil(int wrong_length)
+{
+    unsigned kind = below(3);
+    size_t last;
+
+    start(1, 1, 100);
+    add_unit();
+    while (kind == 0 && made.equations < MOST_EQUATIONS)
+        add_equation(0, 0);
+    while (kind == 1 && made.freshness_fields < MOST_FRESHNESS_FIELDS)
+        add_freshness(0, 0);
+    while (kind == 2 && !nodes_are_full())
+        add_unit();
+    made.nodes = made.equations = made.freshness_fields = 0;
+    last = made.length;
+    if (kind == 0)
+        add_equation(0, wrong_length ? 0 : 600);
+    else if (kind == 1)
+        add_freshness(wrong_length ? 0 : 1, 0);
+    else
+        add_application(0, wrong_length ? 0 : 600);
+    if (wrong_length) {
+        put(0);
+        set_length_at(last, made.length - last - 3);
+    }
+}
+
+static void make_too_many_of_wrong_length(void)
+{
+    fill_and_spoil(1);
+}
+
+static void make_too_many_of_missing_names(void)
+{
+    fill_and_spoil(0);
+}
+
+/* A suspension of a length that is one or two bytes off, at the end of a problem. */
+static void add_suspension_of_length(unsigned length)
+{
+    make_base();
+    if (made.variables == 0 || made.atoms == 0)
+        start(2, 2, 100);
+    if (nodes_are_full())
+        start(2, 2, 100);
+    put_field(TAG_SUSPENSION, length);
+    for (; length > 0; length--)
+        put(0);
+}
+
+static void make_33_swaps(void)
+{
+    add_suspension_of_length(67);
+}
+
+static void make_half_a_swap(void)
+{
+    add_suspension_of_length(2 + 2 * below(32));
+}
+
+/* A swap of an atom that is just not there, in a suspension that matters. */
+static void make_swap_of_missing_atom(void)
+{
+    uint8_t swaps[4] = {0, 0, 0, 0};
+    unsigned atoms = 1 + below(MOST_ATOMS - 1);
+    unsigned left;
+    unsigned right;
+
+    start(atoms, 1, 100);
+    swaps[below(4)] = (uint8_t)atoms;
+    left = add_suspension(0, swaps, 2);
+    right = add_suspension(0, swaps, 0);
+    add_equation(left, right);
+}
+
+/* Small problems with one field more, which names a node or a variable that is just
+ * not there. */
+static void make_missing_node(void)
+{
+    make_twins();
+    add_equation(0, made.nodes + below(2));
+}
+
+static void make_missing_assumed(void)
+{
+    make_twins();
+    add_assumption(0, made.variables);
+}
+
+static void make_missing_protected(void)
+{
+    make_twins();
+    add_protected(made.variables);
+}
+
+static const Family edges[] = {
+    {"65535-bytes", 0, make_65535_bytes},
+    {"65536-bytes", 0, make_65536_bytes},
+    {"33-atoms", 0, make_33_atoms},
+    {"65-variables", 0, make_65_variables},
+    {"long-head", 0, make_long_head},
+    {"cut-without-head", 0, make_cut_without_head},
+    {"second-head", 0, make_second_head},
+    {"too-many-of-wrong-length", 0, make_too_many_of_wrong_length},
+    {"too-many-of-missing-names", 0, make_too_many_of_missing_names},
+    {"33-swaps", 0, make_33_swaps},
+    {"half-a-swap", 0, make_half_a_swap},
+    {"swap-of-missing-atom", 0, make_swap_of_missing_atom},
+    {"missing-node", 0, make_missing_node},
+    {"missing-assumed", 0, make_missing_assumed},
+    {"missing-protected", 0, make_missing_protected}
+};
+
+enum { EDGE_COUNT = sizeof edges / sizeof edges[0] };
+
+static void make_edges(void)
+{
+    edges[in_turn(EDGE_COUNT)].make();
+}
+
+/* ------------------------------------------------------------------------
  * Mutated problems
  * ------------------------------------------------------------------------ */
 
@@ -1537,25 +2050,34 @@ static void make_mutated(void)
  * ------------------------------------------------------------------------ */
 
 static const Family families[] = {
-    {"small", 34, make_small},
-    {"twins", 8, make_twins},
-    {"suspensions", 12, make_suspensions},
-    {"large", 10, make_large},
-    {"malformed", 22, make_malformed},
-    {"mutated", 14, make_mutated}
+    {"small", 17, make_small},
+    {"twins", 10, make_twins},
+    {"suspensions", 10, make_suspensions},
+    {"values", 11, make_values},
+    {"symbols", 4, make_symbols},
+    {"cycles", 3, make_cycles},
+    {"last-atom", 4, make_last_atom},
+    {"protected", 5, make_protected},
+    {"long-run", 2, make_long_run},
+    {"large", 7, make_large},
+    {"malformed", 3, make_malformed},
+    {"edges", 21, make_edges},
+    {"mutated", 3, make_mutated}
 };
 
 enum { FAMILY_COUNT = sizeof families / sizeof families[0] };
 
+/* Of every 100 problems each family has as many as its weight. */
 static void make_any(void)
 {
-    unsigned number = below(100);
+    unsigned number = (unsigned)(turn % 100);
     unsigned family = 0;
 
     while (number >= families[family].weight) {
         number -= families[family].weight;
         family++;
     }
+    turn = turn / 100 * families[family].weight + number;
     families[family].make();
 }
 
@@ -1572,22 +2094,17 @@ static void tame(void)
     limit = four_bytes(made.bytes + 5);
     if (limit <= made.cap)
         return;
-    made.bytes[5] = (unsigned char)(made.cap >> 24);
-    made.bytes[6] = (unsigned char)(made.cap >> 16);
-    made.bytes[7] = (unsigned char)(made.cap >> 8);
-    made.bytes[8] = (unsigned char)made.cap;
+    set_limit(made.cap);
     if (solve(made.bytes, made.length, answer, sizeof answer, &place) == LIMIT_REACHED
         || judge(made.bytes, made.length, &place) == LIMIT_REACHED)
         return;
-    made.bytes[5] = (unsigned char)(limit >> 24);
-    made.bytes[6] = (unsigned char)(limit >> 16);
-    made.bytes[7] = (unsigned char)(limit >> 8);
-    made.bytes[8] = (unsigned char)limit;
+    set_limit(limit);
 }
 
 static void make_problem(void (*make)(void), uint64_t seed, uint64_t index)
 {
     random_state = mixed(mixed(seed) + index);
+    turn = index;
     term_count = 0;
     new_term(TAG_UNIT);
     make();
@@ -1622,47 +2139,221 @@ static int write_stream(void (*make)(void), uint64_t seed, uint64_t count)
  * The census
  * ------------------------------------------------------------------------ */
 
-static int print_counts(const char *who, const unsigned long *counts,
-                        const int *wanted, size_t wanted_count)
-{
-    int missing = 0;
-    int number;
-    size_t i;
+/* What the solver and the judge give back for the problem that was made. */
+typedef struct {
+    int numbers[2];
+    uint64_t places[2];
+    uint32_t steps;
+    unsigned char answer[OUTPUT_ROOM];
+} Outcome;
 
-    for (number = 0; number <= DOES_NOT_HOLD; number++)
-        if (counts[number] > 0)
-            fprintf(stderr, "%s %d: %lu\n", who, number, counts[number]);
-    for (i = 0; i < wanted_count; i++)
-        if (counts[wanted[i]] == 0) {
-            fprintf(stderr, "missing: %s %d\n", who, wanted[i]);
-            missing = 1;
+static void find_outcome(Outcome *outcome)
+{
+    outcome->numbers[0] = solve(made.bytes, made.length, outcome->answer,
+                                sizeof outcome->answer, &outcome->places[0]);
+    outcome->steps = run.steps;
+    outcome->numbers[1] = judge(made.bytes, made.length, &outcome->places[1]);
+}
+
+static int outcomes_differ(const Outcome *one, const Outcome *other)
+{
+    return one->numbers[0] != other->numbers[0] || one->places[0] != other->places[0]
+        || one->numbers[1] != other->numbers[1] || one->places[1] != other->places[1]
+        || (one->numbers[0] == ACCEPTED
+            && memcmp(one->answer, other->answer, (size_t)one->places[0]) != 0);
+}
+
+static int is_readable(const Outcome *outcome)
+{
+    return outcome->numbers[0] == ACCEPTED || outcome->numbers[0] > NAME_NOT_THERE;
+}
+
+/* Changes that take something out of a readable problem: if the outcome is another
+ * one then, that thing mattered. */
+static uint32_t made_limit(void)
+{
+    return four_bytes(made.bytes + 5);
+}
+
+static void take_high_limit(void)
+{
+    set_limit(made_limit() & 65535);
+}
+
+static void take_highest_limit_byte(void)
+{
+    set_limit(made_limit() & 16777215);
+}
+
+static void take_limits_from_2_31_up(void)
+{
+    if (made_limit() >= UINT32_C(0x80000000))
+        set_limit(0);
+}
+
+/* Takes out the protected fields of variables from a first one up. */
+static void take_protection_from(unsigned first)
+{
+    unsigned i;
+
+    find_fields();
+    for (i = field_count; i-- > 1;)
+        if (made.bytes[field_offsets[i]] == TAG_PROTECTED
+            && made.bytes[field_offsets[i] + 3] >= first)
+            delete_bytes(field_offsets[i], 4);
+}
+
+static void take_protection_from_8_up(void)
+{
+    take_protection_from(8);
+}
+
+static void take_protection_from_32_up(void)
+{
+    take_protection_from(32);
+}
+
+static void take_protection_of_63(void)
+{
+    take_protection_from(63);
+}
+
+/* Clears one byte of every field of a tag. */
+static void clear_byte(unsigned tag, size_t offset)
+{
+    unsigned i;
+
+    find_fields();
+    for (i = 1; i < field_count; i++)
+        if (made.bytes[field_offsets[i]] == tag)
+            made.bytes[field_offsets[i] + 3 + offset] = 0;
+}
+
+static void take_low_symbol_bytes(void)
+{
+    clear_byte(TAG_APPLICATION, 1);
+}
+
+static void take_high_symbol_bytes(void)
+{
+    clear_byte(TAG_APPLICATION, 0);
+}
+
+static void take_high_node_bytes(void)
+{
+    clear_byte(TAG_EQUATION, 0);
+    clear_byte(TAG_EQUATION, 2);
+}
+
+/* Atom 31 becomes atom 30, wherever an atom stands. */
+static void take_atom_31(void)
+{
+    unsigned i;
+
+    find_fields();
+    for (i = 1; i < field_count; i++) {
+        unsigned char *field = made.bytes + field_offsets[i];
+        size_t first = field[0] == TAG_SUSPENSION ? 1 : 0;
+        size_t last = field[0] == TAG_SUSPENSION ? body_length_at(field_offsets[i]) : 1;
+        size_t place;
+
+        if (field[0] != TAG_ATOM && field[0] != TAG_ABSTRACTION && field[0] != TAG_SUSPENSION
+            && field[0] != TAG_FRESHNESS && field[0] != TAG_ASSUMPTION)
+            continue;
+        for (place = first; place < last; place++)
+            if (field[3 + place] == MOST_ATOMS - 1)
+                field[3 + place] = MOST_ATOMS - 2;
+    }
+}
+
+static const struct {
+    const char *name;
+    void (*take)(void);
+} matters[] = {
+    {"the limit's two high bytes", take_high_limit},
+    {"the limit's highest byte", take_highest_limit_byte},
+    {"limits from 2^31 up", take_limits_from_2_31_up},
+    {"protection of variables from 8 up", take_protection_from_8_up},
+    {"protection of variables from 32 up", take_protection_from_32_up},
+    {"protection of variable 63", take_protection_of_63},
+    {"symbols' low byte", take_low_symbol_bytes},
+    {"symbols' high byte", take_high_symbol_bytes},
+    {"the high byte of an equation's nodes", take_high_node_bytes},
+    {"atom 31", take_atom_31}
+};
+
+enum { MATTERS_COUNT = sizeof matters / sizeof matters[0] };
+
+static struct {
+    unsigned long by_solver[DOES_NOT_HOLD + 1];
+    unsigned long by_judge[DOES_NOT_HOLD + 1];
+    unsigned long mattered[MATTERS_COUNT];
+    unsigned long steps_over_65535;
+} census;
+
+static void count_problem(void)
+{
+    static unsigned char kept[MADE_ROOM];
+    static Outcome outcome;
+    static Outcome changed_outcome;
+    size_t length = made.length;
+    unsigned i;
+
+    find_outcome(&outcome);
+    census.by_solver[outcome.numbers[0]]++;
+    census.by_judge[outcome.numbers[1]]++;
+    if (outcome.numbers[0] == ACCEPTED && outcome.steps > 65535)
+        census.steps_over_65535++;
+    if (!is_readable(&outcome))
+        return;
+    memcpy(kept, made.bytes, length);
+    for (i = 0; i < MATTERS_COUNT; i++) {
+        matters[i].take();
+        if (made.length != length || memcmp(kept, made.bytes, length) != 0) {
+            find_outcome(&changed_outcome);
+            census.mattered[i] += (unsigned)outcomes_differ(&outcome, &changed_outcome);
         }
-    return missing;
+        memcpy(made.bytes, kept, length);
+        made.length = length;
+    }
+}
+
+/* Prints a count; 1 if it is less than one of 100. */
+static int print_count(const char *name, unsigned long found, uint64_t count)
+{
+    int few = found * 100 < count;
+
+    fprintf(stderr, "%s: %lu%s\n", name, found, few ? ", TOO FEW" : "");
+    return few;
 }
 
 static int take_census(uint64_t seed, uint64_t count)
 {
     static const int solver_numbers[] = {0, 1, 2, 3, 4, 5, 6, 7, 8, 9, 10, 11, 12};
     static const int judge_numbers[] = {0, 1, 2, 3, 4, 5, 6, 7, 8, 14};
-    static unsigned char answer[OUTPUT_ROOM];
-    unsigned long by_solver[DOES_NOT_HOLD + 1] = {0};
-    unsigned long by_judge[DOES_NOT_HOLD + 1] = {0};
+    char name[40];
     uint64_t index;
-    uint64_t place;
-    int missing;
+    int few = 0;
+    size_t i;
 
     for (index = 0; index < count; index++) {
         make_problem(make_any, seed, index);
-        by_solver[solve(made.bytes, made.length, answer, sizeof answer, &place)]++;
-        by_judge[judge(made.bytes, made.length, &place)]++;
+        count_problem();
     }
-    missing = print_counts("solver", by_solver, solver_numbers,
-                           sizeof solver_numbers / sizeof solver_numbers[0]);
-    missing |= print_counts("judge", by_judge, judge_numbers,
-                            sizeof judge_numbers / sizeof judge_numbers[0]);
-    if (!missing)
-        fputs("every number occurs\n", stderr);
-    return missing;
+    for (i = 0; i < sizeof solver_numbers / sizeof solver_numbers[0]; i++) {
+        sprintf(name, "solver %d", solver_numbers[i]);
+        few |= print_count(name, census.by_solver[solver_numbers[i]], count);
+    }
+    for (i = 0; i < sizeof judge_numbers / sizeof judge_numbers[0]; i++) {
+        sprintf(name, "judge %d", judge_numbers[i]);
+        few |= print_count(name, census.by_judge[judge_numbers[i]], count);
+    }
+    few |= print_count("step counts over 65,535, printed", census.steps_over_65535, count);
+    for (i = 0; i < MATTERS_COUNT; i++)
+        few |= print_count(matters[i].name, census.mattered[i], count);
+    if (count == 0)
+        fputs("no problems\n", stderr);
+    return few || count == 0;
 }
 
 static void (*find_family(const char *name))(void)
@@ -1675,6 +2366,9 @@ static void (*find_family(const char *name))(void)
     for (i = 0; i < LARGE_COUNT; i++)
         if (strcmp(name, large_families[i].name) == 0)
             return large_families[i].make;
+    for (i = 0; i < EDGE_COUNT; i++)
+        if (strcmp(name, edges[i].name) == 0)
+            return edges[i].make;
     return NULL;
 }
 

@@ -5,7 +5,9 @@
  *
  *   second solve              one problem on standard input, the solver's lines
  *   second judge              one problem on standard input, the judge's line
- *   second stream             many problems, each after its length in four bytes
+ *   second stream [ROOM]      many problems, each after its length in four bytes;
+ *                             with ROOM, which is at most 16,384, so many bytes
+ *                             are lent for an answer, so that 13 is seen
  *   second bench FILE REPEATS the time of one solve, over all problems of a stream
  */
 
@@ -1053,11 +1055,13 @@ static void print_refusal(int number, uint64_t place)
     printf("refused %d %llu\n", number, (unsigned long long)place);
 }
 
+static size_t lent_room = OUTPUT_ROOM;
+
 static void print_solver_lines(const unsigned char *input, size_t length)
 {
     static unsigned char output[OUTPUT_ROOM];
     uint64_t place;
-    int number = solve(input, length, output, OUTPUT_ROOM, &place);
+    int number = solve(input, length, output, lent_room, &place);
 
     if (number == ACCEPTED)
         print_answer(output, (size_t)place);
@@ -1126,12 +1130,16 @@ static int read_from_stream(uint32_t *length)
     return fread(lent_input, 1, *length, stdin) == *length ? 1 : -1;
 }
 
-static int answer_stream(void)
+static int answer_stream(const char *room)
 {
     unsigned long long count = 0;
     uint32_t length;
     int found;
 
+    if (room != NULL)
+        lent_room = (size_t)strtoul(room, NULL, 10);
+    if (lent_room > OUTPUT_ROOM)
+        return 2;
     while ((found = read_from_stream(&length)) == 1) {
         print_solver_lines(lent_input, length);
         print_judge_line(lent_input, length);
@@ -1224,10 +1232,12 @@ int main(int argument_count, char **arguments)
     if (argument_count == 2 && strcmp(arguments[1], "judge") == 0)
         return answer_one(print_judge_line);
     if (argument_count == 2 && strcmp(arguments[1], "stream") == 0)
-        return answer_stream();
+        return answer_stream(NULL);
+    if (argument_count == 3 && strcmp(arguments[1], "stream") == 0)
+        return answer_stream(arguments[2]);
     if (argument_count == 4 && strcmp(arguments[1], "bench") == 0)
         return bench(arguments[2], arguments[3]);
-    fputs("usage: second solve | judge | stream | bench FILE REPEATS\n", stderr);
+    fputs("usage: second solve | judge | stream [ROOM] | bench FILE REPEATS\n", stderr);
     return 2;
 }
 

@@ -9,57 +9,15 @@ Atoms a, b, c are 0, 1, 2. Symbols: 1 fn, 2 app, 3 vr, 4 lv, 5 the number 1 (of 
 unit), 6 a plain function symbol f, 7 cons, 8 nil (of a unit), 9 lam, 10 var.
 """
 
+import problem
+
 A, B, C = 0, 1, 2
 FN, APP, VR, LV, ONE, F, CONS, NIL, LAM, VAR = range(1, 11)
 
 
-def two(number):
-    return number.to_bytes(2, "big")
+class Case(problem.Case):
+    """A case with the paper's words, as terms."""
 
-
-class Case:
-    def __init__(self, name, atoms, variables, limit=100):
-        self.name = name
-        self.nodes = 0
-        self.bytes = b""
-        self.field(0x01, bytes([atoms, variables]) + limit.to_bytes(4, "big"))
-
-    def field(self, tag, body):
-        self.bytes += bytes([tag]) + two(len(body)) + body
-
-    def node(self, tag, body):
-        self.field(tag, body)
-        self.nodes += 1
-        return self.nodes - 1
-
-    def unit(self):
-        return self.node(0x10, b"")
-
-    def atom(self, atom):
-        return self.node(0x11, bytes([atom]))
-
-    def abstraction(self, atom, node):
-        return self.node(0x12, bytes([atom]) + two(node))
-
-    def pair(self, left, right):
-        return self.node(0x13, two(left) + two(right))
-
-    def application(self, symbol, node):
-        return self.node(0x14, two(symbol) + two(node))
-
-    def suspension(self, variable, *swaps):
-        return self.node(0x15, bytes([variable]) + bytes(x for s in swaps for x in s))
-
-    def equation(self, left, right):
-        self.field(0x20, two(left) + two(right))
-
-    def freshness(self, atom, node):
-        self.field(0x21, bytes([atom]) + two(node))
-
-    def assumption(self, atom, variable):
-        self.field(0x22, bytes([atom, variable]))
-
-    # The paper's words, as terms.
     def vr(self, atom):
         return self.application(VR, self.atom(atom))
 
@@ -71,11 +29,6 @@ class Case:
 
     def one(self):
         return self.application(ONE, self.unit())
-
-    def expect(self, *lines, judge):
-        number = {"holds": "0 0", "does not hold": "14 0"}.get(judge, judge)
-        expected = "".join(line + "|" for line in lines)
-        print("\t".join([self.name, self.bytes.hex(), expected, number]))
 
 
 # ---------------------------------------------------------------- section 1

@@ -1,5 +1,5 @@
 #!/usr/bin/env python3
-"""reader-cases.py > tests/vectors/reader.tsv: bad input, all of it (document 01, "The problem in bytes" and "Numbers given back").
+"""Prints reader.tsv: bad input, all of it (document 01, "The problem in bytes" and "Numbers given back").
 
 Each case is written with the number that document 01 gives it. The place is where the field at fault starts, which is the
 length of what stands before it: nothing here reads a problem. A few cases at the borders are accepted, so that a reader which
@@ -154,6 +154,7 @@ accepted("the last atom, variable and node", head(32, 64) + UNIT * 511 + field(0
 refused("cut, and no head", 3, 0, field(0x10, b"\x00\x00")[:-1])
 refused("cut, and 33 atoms", 3, 0, head(atoms=33)[:-1])
 refused("too long, and no head", 1, 0, field(0x10) + bytes(65533))
+refused("too long, and a field at fault before", 1, 0, HEAD + field(0x12, b"\x00" + number(0)) + field(0x30, b"\x00") * 16384)
 at_fault("cut, of an unknown tag", 3, HEAD, b"\x99\x00\x05\x00")
 at_fault("cut, a second head", 3, HEAD, HEAD[:-1])
 at_fault("cut, of a wrong length", 3, HEAD + UNIT, b"\x11\x00\x02\x00")
