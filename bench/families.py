@@ -3,52 +3,13 @@
 family, FOLDER/NAME.stream, and for growth FOLDER/grow-NAME-NODES.stream with the nodes doubling from 32 to 512."""
 import os
 import random
-import struct
 import sys
 
+TESTS = os.path.join(os.path.dirname(os.path.abspath(__file__)), "..", "tests")
+sys.path.insert(0, TESTS)
+from problem import Problem, stream_of  # noqa: E402
 
-class Problem:
-    """A problem's bytes, field by field; nodes are numbered as they are made."""
-
-    def __init__(self, atoms, variables, limit=0xFFFFFFFF):
-        self.bytes = self.field(0x01, bytes([atoms, variables]) + struct.pack(">I", limit))
-        self.nodes = 0
-
-    @staticmethod
-    def field(tag, body):
-        return bytes([tag]) + struct.pack(">H", len(body)) + body
-
-    def node(self, tag, body):
-        self.bytes += self.field(tag, body)
-        self.nodes += 1
-        return self.nodes - 1
-
-    def unit(self):
-        return self.node(0x10, b"")
-
-    def atom(self, a):
-        return self.node(0x11, bytes([a]))
-
-    def abstraction(self, a, n):
-        return self.node(0x12, bytes([a]) + struct.pack(">H", n))
-
-    def pair(self, left, right):
-        return self.node(0x13, struct.pack(">HH", left, right))
-
-    def application(self, symbol, n):
-        return self.node(0x14, struct.pack(">HH", symbol, n))
-
-    def suspension(self, variable, swaps=()):
-        return self.node(0x15, bytes([variable]) + bytes(a for swap in swaps for a in swap))
-
-    def equation(self, left, right):
-        self.bytes += self.field(0x20, struct.pack(">HH", left, right))
-
-    def freshness(self, a, n):
-        self.bytes += self.field(0x21, bytes([a]) + struct.pack(">H", n))
-
-    def protect(self, variable):
-        self.bytes += self.field(0x30, bytes([variable]))
+NO_LIMIT = 0xFFFFFFFF
 
 
 def whole_example():
@@ -61,7 +22,7 @@ def whole_example():
 def rule_match(seed):
     """A rule's left side with variables against a query: lets over applications and pairs, other binder names on the query's side."""
     random_ = random.Random(seed)
-    p = Problem(8, 6)
+    p = Problem(8, 6, NO_LIMIT)
     depth = random_.randint(2, 4)
 
     def rule(level):
@@ -79,7 +40,7 @@ def rule_match(seed):
 
     left = rule(depth)
     seen = [expression() for _ in range(3)]
-    p.protect(5)
+    p.protected(5)
     p.equation(left, query(depth))
     p.freshness(1, left)
     return p
@@ -95,13 +56,13 @@ def two_chains(p, left, right, nodes):
 
 def chain(nodes):
     """Two chains that meet: an atom and a variable at their ends."""
-    p = Problem(2, 1)
+    p = Problem(2, 1, NO_LIMIT)
     return two_chains(p, p.atom(0), p.suspension(0), nodes)
 
 
 def shared_pairs(nodes):
     """Pairs of one node with itself, under freshness of every atom."""
-    p = Problem(32, 1)
+    p = Problem(32, 1, NO_LIMIT)
     n = p.suspension(0)
     while p.nodes < nodes:
         n = p.pair(n, n)
@@ -112,7 +73,7 @@ def shared_pairs(nodes):
 
 def bound_chain(variables):
     """X0 against f(X1, X1), X1 against f(X2, X2), ..: each variable bound to a node with the next."""
-    p = Problem(2, variables)
+    p = Problem(2, variables, NO_LIMIT)
     names = [p.suspension(i) for i in range(variables)]
     for i in range(variables - 1):
         p.equation(names[i], p.application(5, p.pair(names[i + 1], names[i + 1])))
@@ -123,23 +84,23 @@ def bound_chain(variables):
 def many_swaps(count):
     """Suspensions under 32 swaps of 32 atoms against each other."""
     random_ = random.Random(7)
-    p = Problem(32, count)
+    p = Problem(32, count, NO_LIMIT)
     for i in range(count):
         swaps = [(random_.randrange(32), random_.randrange(32)) for _ in range(32)]
         others = [(random_.randrange(32), random_.randrange(32)) for _ in range(32)]
-        p.equation(p.suspension(i, swaps), p.suspension(i, others))
+        p.equation(p.suspension(i, *swaps), p.suspension(i, *others))
     return p
 
 
 def late_clash(nodes):
     """Two chains under a limit of 4,294,967,295 that clash at their ends."""
-    p = Problem(2, 0)
+    p = Problem(2, 0, NO_LIMIT)
     return two_chains(p, p.atom(0), p.atom(1), nodes)
 
 
 def nested_pairs():
     """200 nested pairs of one node with itself under one freshness field: 1,419 bytes, and 2^200 leaves to one who walks the tree."""
-    p = Problem(1, 1)
+    p = Problem(1, 1, NO_LIMIT)
     n = p.suspension(0)
     for _ in range(200):
         n = p.pair(n, n)
@@ -151,8 +112,7 @@ class Published:
     """A case of known answer, by its name in tests/vectors/base.tsv."""
 
     def __init__(self, name):
-        vectors = os.path.join(os.path.dirname(os.path.abspath(__file__)), "..", "tests", "vectors", "base.tsv")
-        with open(vectors, encoding="utf-8") as file:
+        with open(os.path.join(TESTS, "vectors", "base.tsv"), encoding="utf-8") as file:
             columns = next(line.split("\t") for line in file if line.startswith(name + "\t"))
         self.bytes = bytes.fromhex(columns[1])
 
@@ -173,8 +133,7 @@ GROWTH = {"chain": chain, "shared": shared_pairs, "clash": late_clash}
 
 def write(folder, name, problems):
     with open(os.path.join(folder, name + ".stream"), "wb") as out:
-        for p in problems:
-            out.write(struct.pack(">I", len(p.bytes)) + p.bytes)
+        out.write(stream_of(p.bytes for p in problems))
 
 
 def main(folder):

@@ -65,10 +65,6 @@ def load(names):
     return cases
 
 
-def stream_of(inputs):
-    return b"".join(len(one).to_bytes(4, "big") + one for one in inputs)
-
-
 def blocks_of(output):
     """The blocks of lines, each ended by an empty line, and what stands after the last one."""
     pieces = output.split(b"\n\n")

@@ -18,6 +18,7 @@ Its last line is `N passed, M failed`; it ends with 0 only if nothing failed. Th
 import sys
 
 import cases
+from problem import stream_of
 
 MOST_SHOWN = 5
 
@@ -45,7 +46,7 @@ def differences(known, expected, blocks):
 def compare(command, names, room):
     known = cases.load(names)
     expected = ["\n".join((case.lines if room is None else case.lines_in(room)) + [case.judge_line]).encode() for case in known]
-    ran = cases.Ran(command, cases.stream_of(case.input for case in known), 2 * len(b"\n\n".join(expected)) + 65536)
+    ran = cases.Ran(command, stream_of(case.input for case in known), 2 * len(b"\n\n".join(expected)) + 65536)
     blocks, rest = cases.blocks_of(ran.output)
     faults = list(ran.faults)
     if len(blocks) != len(known):

@@ -16,6 +16,7 @@ import sys
 import tempfile
 
 import cases
+from problem import stream_of
 
 HERE = os.path.dirname(os.path.abspath(__file__))
 TOP = os.path.dirname(HERE)
@@ -84,7 +85,7 @@ class Trial:
 
     def __init__(self, seeds):
         vectors = sorted(glob.glob(os.path.join(HERE, "vectors", "*.tsv")))
-        self.streams = [cases.stream_of(case.input for case in cases.load(vectors))] + [generated(seed) for seed in seeds]
+        self.streams = [stream_of(case.input for case in cases.load(vectors))] + [generated(seed) for seed in seeds]
         self.right = {}
 
     def expected(self, arguments):

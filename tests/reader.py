@@ -7,18 +7,7 @@ refuses too much is seen too. A line has four columns: name, input in hexadecima
 the judge's number and place. The reader's refusals are the same for both.
 """
 
-
-def field(tag, body=b""):
-    return bytes([tag]) + len(body).to_bytes(2, "big") + body
-
-
-def number(n):
-    return n.to_bytes(2, "big")
-
-
-def head(atoms=2, variables=2, limit=100):
-    return field(0x01, bytes([atoms, variables]) + limit.to_bytes(4, "big"))
-
+from problem import field, head, number
 
 HEAD = head()
 UNIT = field(0x10)

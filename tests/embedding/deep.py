@@ -4,60 +4,21 @@
 Only freshness takes more stack for a larger problem: the lower part of a pair is a call, and it is at least two numbers below the pair. So the deepest
 chain of calls goes down by two at each pair, from node 511 to node 1: 256 of them.
 """
+import os
 import sys
 
-
-def head(atoms, variables, limit=1000000):
-    return b"\x01\x00\x06" + bytes([atoms, variables]) + limit.to_bytes(4, "big")
-
-
-def field(tag, *parts):
-    body = b"".join(parts)
-    return bytes([tag]) + len(body).to_bytes(2, "big") + body
+sys.path.insert(0, os.path.join(os.path.dirname(os.path.abspath(__file__)), ".."))
+import problem  # noqa: E402
+from problem import abstraction, application, assumption, atom, equation, freshness, pair, suspension, unit  # noqa: E402
 
 
-def node(number):
-    return number.to_bytes(2, "big")
+def head(atoms, variables):
+    return problem.head(atoms, variables, 1000000)
 
 
-def name(number):
-    return bytes([number])
-
-
-def unit():
-    return field(0x10)
-
-
-def atom(a):
-    return field(0x11, name(a))
-
-
-def abstraction(a, n):
-    return field(0x12, name(a), node(n))
-
-
-def pair(left, right):
-    return field(0x13, node(left), node(right))
-
-
-def application(symbol, n):
-    return field(0x14, node(symbol), node(n))
-
-
-def suspension(x, *swapped):
-    return field(0x15, name(x), bytes(swapped))
-
-
-def equation(left, right):
-    return field(0x20, node(left), node(right))
-
-
-def freshness(a, n):
-    return field(0x21, name(a), node(n))
-
-
-def assumption(a, x):
-    return field(0x22, name(a), name(x))
+def paired(*atoms):
+    """Swaps of each two atoms that stand beside one another."""
+    return zip(atoms[::2], atoms[1::2])
 
 
 def chain(first, last, turned=False):
@@ -69,7 +30,7 @@ def demanded():
     """Freshness asked of the deepest chain there is, and of one that goes down by one node."""
     for turned in (False, True):
         yield head(2, 0) + unit() + atom(1) + chain(2, 511, turned) + freshness(0, 511)
-    yield head(32, 1) + unit() + suspension(0, *range(32), *range(32)) + chain(2, 511) + b"".join(freshness(a, 511) for a in range(32))
+    yield head(32, 1) + unit() + suspension(0, *paired(*range(32), *range(32))) + chain(2, 511) + b"".join(freshness(a, 511) for a in range(32))
     yield head(2, 0) + unit() + atom(0) + chain(2, 511) + freshness(0, 511)
     yield head(2, 0) + unit() + pair(0, 0) + chain(2, 511) + freshness(0, 511)
     for left_first in (False, True):
@@ -96,7 +57,7 @@ def resolved():
     yield fields + suspension(0) + equation(511, 510) + freshness(0, 511)
     variables = 60
     fields = head(32, variables) + unit() + atom(31) + chain(2, 511 - variables)
-    fields += b"".join(suspension(x, x % 31, 31) for x in range(variables))
+    fields += b"".join(suspension(x, (x % 31, 31)) for x in range(variables))
     first = 512 - variables
     fields += equation(511, first - 1) + b"".join(equation(first + x, first + x + 1) for x in range(variables - 1))
     yield fields + b"".join(freshness(a, first) for a in range(32))
@@ -105,21 +66,20 @@ def resolved():
 def long_answers():
     """Every fact that there can be; every variable but one bound, each to the next under images of 32 atoms."""
     yield head(32, 64) + b"".join(assumption(a, x) for x in range(64) for a in range(32))
-    fields = head(32, 64) + b"".join(suspension(x, *range(32)) for x in range(64))
+    fields = head(32, 64) + b"".join(suspension(x, *paired(*range(32))) for x in range(64))
     yield fields + b"".join(equation(x, x + 1) for x in range(63)) + b"".join(assumption(a, x) for x in range(64) for a in range(32))
 
 
 def pending():
     """As many equations waiting as there can be, with the longest lists of swaps."""
-    fields = head(32, 1) + suspension(0, *range(32), *range(32)) + unit()
+    fields = head(32, 1) + suspension(0, *paired(*range(32), *range(32))) + unit()
     fields += b"".join(pair(n - 1, 0) for n in range(2, 512))
     yield fields + b"".join(equation(511, 511) for _ in range(64))
 
 
 def main():
     for family in (demanded, through_binders, raised, resolved, long_answers, pending):
-        for problem in family():
-            sys.stdout.buffer.write(len(problem).to_bytes(4, "big") + problem)
+        sys.stdout.buffer.write(problem.stream_of(family()))
 
 
 if __name__ == "__main__":

@@ -109,7 +109,6 @@ pub fn write(fd: i32, buf: &[u8]) -> Answer
     ensures { λ r. ⌜ r .asked ≡ length (now (buf .entry)) ⌝ }
     ensures { λ r. ⌜ Moved (length (now (buf .entry))) (r .got) ⌝ }
 {
-    let asked = buf.len();
     let mut turns: usize = 0;
     loop {
         let got = libc::write(fd, buf);
@@ -117,7 +116,7 @@ pub fn write(fd: i32, buf: &[u8]) -> Answer
             turns += 1;
         } else {
             return Answer {
-                asked: asked,
+                asked: buf.len(),
                 got: got,
             };
         }

@@ -8,13 +8,8 @@ use lib.ListN.{length, take}
 use Rattle.notice.specs.Notices.{noticeOf}
 use Rattle.notice.specs.declared.Notice.the-variants.{Nothing}
 use Rattle.outlet.specs.Puts.{Puts}
-use Rattle.outlet.specs.declared.Taken.{Taken}
 use Rattle.exchange.specs.declared.Worked.{Worked}
 use Rattle.exchange.specs.declared.Served.{Served}
-
--- What was taken is of as many bytes.
-abbrev pub TakenOf : ℕ → Taken → Type 0
-TakenOf n t = Puts n (t .count) (t .whole) (t .last)
 
 -- The lines stand whole at the start of the room.
 pub record Works (n p : ℕ) (text out : List ℕ) (w : Worked) : Type 0 where
@@ -30,14 +25,14 @@ pub record Answered (n p : ℕ) (text problem out : List ℕ) (r : Served) : Typ
   pub read : r .filled .failed ≡ false
   pub told : r .notice ≡ noticeOf n p problem
   pub lines : take (r .end) out ≡ text
-  pub wrote : TakenOf (length text) (r .taken)
+  pub wrote : Puts (length text) (r .taken)
 
 -- A read failed: nothing is worked, told or written.
 pub record Unread (before after : List ℕ) (r : Served) : Type 0 where
   pub unread : r .filled .failed ≡ true
   pub untold : r .notice ≡ Nothing
   pub kept : after ≡ before
-  pub unwritten : TakenOf 0 (r .taken)
+  pub unwritten : Puts 0 (r .taken)
 
 abbrev pub Serves : ℕ → ℕ → List ℕ → List ℕ → List ℕ → List ℕ → Served → Type 0
 Serves n p text problem before after r = Answered n p text problem after r ⊎ Unread before after r

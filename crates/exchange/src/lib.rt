@@ -3,7 +3,7 @@ ghost use mathlib.Core.Path.{_≡_};
 ghost use lib.ListN.{length};
 ghost use Rattle.notice.specs.Notices.{noticeOf};
 ghost use Rattle.notice.specs.declared.Notice.the-variants.{Nothing};
-ghost use Rattle.exchange.specs.Exchanges.{TakenOf};
+ghost use Rattle.outlet.specs.Puts.{Puts};
 use intake::Filled;
 use notice::Notice;
 use numbers::Given;
@@ -26,7 +26,7 @@ pub struct Served {
 // A read failed: nothing is told or written.
 pub fn unread(filled: Filled) -> Served
     ensures { λ r. ⌜ (r .filled ≡ filled) × (r .notice ≡ Nothing) ⌝ }
-    ensures { λ r. ⌜ TakenOf 0 (r .taken) ⌝ }
+    ensures { λ r. ⌜ Puts 0 (r .taken) ⌝ }
 {
     Served {
         filled: filled,
@@ -39,7 +39,7 @@ pub fn unread(filled: Filled) -> Served
 // Tells of the answer and writes its lines. Standard error comes first, so that no call comes after a write that failed, and errno is that write's.
 pub fn answered(filled: Filled, given: Given, problem: &[u8], lines: &[u8]) -> Served
     ensures { λ r. ⌜ (r .filled ≡ filled) × (r .notice ≡ noticeOf (given .number) (given .place) (now (problem .entry))) ⌝ }
-    ensures { λ r. ⌜ (r .end ≡ length (now (lines .entry))) × TakenOf (length (now (lines .entry))) (r .taken) ⌝ }
+    ensures { λ r. ⌜ (r .end ≡ length (now (lines .entry))) × Puts (length (now (lines .entry))) (r .taken) ⌝ }
 {
     let notice = notice::of(given.number, given.place, problem);
     notice::tell(notice);

@@ -15,7 +15,7 @@ pub struct Filled {
 // Reads until the bytes are full, the input ends, or a read fails. No call comes after a read that failed, so errno is that read's.
 pub fn fill(fd: i32, buf: &mut [u8]) -> Filled
     ensures { λ r. ⌜ (r .count ≤ length (now (buf .exit))) × (r .count ≡ length (take (r .count) (now (buf .exit)))) ⌝ }
-    ensures { λ r. ⌜ Fills (length (now (buf .exit))) (r .count) (r .failed) (r .last) ⌝ }
+    ensures { λ r. ⌜ Fills (length (now (buf .exit))) r ⌝ }
 {
     let mut done: usize = 0;
     let mut last = descriptor::none();

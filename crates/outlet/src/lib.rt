@@ -16,7 +16,7 @@ pub struct Taken {
 
 // Nothing was to be written.
 pub fn nothing() -> Taken
-    ensures { λ r. ⌜ Puts 0 (r .count) (r .whole) (r .last) ⌝ }
+    ensures { λ r. ⌜ Puts 0 r ⌝ }
     ensures { λ r. ⌜ r .whole ≡ true ⌝ }
 {
     Taken {
@@ -35,7 +35,7 @@ pub fn is_whole(taken: Taken) -> bool
 // Writes the bytes. No call comes after a write that failed, so errno is that write's.
 pub fn put(fd: i32, buf: &[u8]) -> Taken
     ensures { λ r. ⌜ r .count ≤ length (now (buf .entry)) ⌝ }
-    ensures { λ r. ⌜ Puts (length (now (buf .entry))) (r .count) (r .whole) (r .last) ⌝ }
+    ensures { λ r. ⌜ Puts (length (now (buf .entry))) r ⌝ }
 {
     let mut done: usize = 0;
     let mut last = descriptor::none();

@@ -27,7 +27,7 @@ pub within : {n : ℕ} (r : Reading) (l : List ℕ) → r .came ≡ Whole n → 
 within r l e t = subst (λ x. bytesOf x ≤ length l) e (t .within)
 
 -- Nothing was to be written, and nothing was.
-pub quiet : {out : List ℕ} (taken : Taken) → Puts 0 (taken .count) (taken .whole) (taken .last) → Handed [] out taken
+pub quiet : {out : List ℕ} (taken : Taken) → Puts 0 taken → Handed [] out taken
 quiet taken p = record { stands = refl; puts = p }
 
 -- So it is where no problem came whole.
@@ -39,13 +39,13 @@ none-said input output out taken Cut o w = w
 none-said input output out taken Unreadable o w = w
 
 pub idle : {input output out : List ℕ} (r : Outcome) → Told (length input) (r .reading) → OneOf (1 ∷ 2 ∷ 3 ∷ []) (tagOf came.the-type (r .reading .came))
-    → Puts 0 (r .taken .count) (r .taken .whole) (r .taken .last) → Turned input output out r
+    → Puts 0 (r .taken) → Turned input output out r
 idle {input} {output} {out} r t o p =
     record { told = t; wrote = none-said input output out (r .taken) (r .reading .came) o (quiet (r .taken) p) }
 
 -- Where one came whole, its block was.
 pub busy : {n : ℕ} {input output out : List ℕ} (r : Outcome) (end : ℕ) → Told (length input) (r .reading) → r .reading .came ≡ Whole n
-    → take end out ≡ block (take n input) output → Puts (length (take end out)) (r .taken .count) (r .taken .whole) (r .taken .last)
+    → take end out ≡ block (take n input) output → Puts (length (take end out)) (r .taken)
     → end ≡ length (take end out) → Turned input output out r
 busy r end t e b p l = record { told = t; wrote = rw e (wrote end b p l) }
 

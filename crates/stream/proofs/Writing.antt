@@ -13,7 +13,7 @@ use Rattle.stream.specs.Turned.{Handed}
 
 -- The front of the lent bytes is the text, and it was the front that was handed out.
 pub wrote : {text out : List ℕ} {taken : Taken} (end : ℕ) → take end out ≡ text
-    → Puts (length (take end out)) (taken .count) (taken .whole) (taken .last) → end ≡ length (take end out) → Handed text out taken
+    → Puts (length (take end out)) taken → end ≡ length (take end out) → Handed text out taken
 wrote {text} {out} {taken} end e p l =
     let n : length text ≡ end = sym (ap length e) ∙ sym l in
     record { stands = rw n e; puts = rw e at p }

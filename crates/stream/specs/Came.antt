@@ -25,6 +25,6 @@ Tells room Unreadable wanted filled = filled .failed ≡ true
 
 -- How a problem came is what the last reading tells, and a problem lies within the room.
 pub record Told (room : ℕ) (r : Reading) : Type 0 where
-  pub fills : Fills (r .wanted) (r .filled .count) (r .filled .failed) (r .filled .last)
+  pub fills : Fills (r .wanted) (r .filled)
   pub tells : Tells room (r .came) (r .wanted) (r .filled)
   pub within : bytesOf (r .came) ≤ room

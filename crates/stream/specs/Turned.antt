@@ -19,7 +19,7 @@ use Rattle.stream.specs.declared.How.the-variants as how
 -- A text was handed out to be written: it stands at the front of the lent bytes, and `taken` tells how much of it was taken.
 pub record Handed (text out : List ℕ) (taken : Taken) : Type 0 where
   pub stands : take (length text) out ≡ text
-  pub puts : Puts (length text) (taken .count) (taken .whole) (taken .last)
+  pub puts : Puts (length text) taken
 
 -- What is written where a problem came so: the block of the bytes that were read, or nothing if it did not come whole.
 abbrev pub textOf : List ℕ → List ℕ → Came → List ℕ

@@ -7,10 +7,10 @@ use Rattle.descriptor.proofs.write.Statement.{statement}
 use Rattle.descriptor.proofs.write.Tie as tie
 
 abbrev Inv-loop : tie.InvT-loop
-Inv-loop fd buf asked turns₀ turns = Unit {0}
+Inv-loop fd buf turns₀ turns = Unit {0}
 
 abbrev μ-loop : tie.MeasureT-loop
-μ-loop fd buf asked turns₀ turns = 18446744073709551615 - turns
+μ-loop fd buf turns₀ turns = 18446744073709551615 - turns
 
 loop-holds : tie.Need-loop-holds Inv-loop μ-loop
 loop-holds c = search needs

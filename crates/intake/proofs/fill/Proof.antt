@@ -13,6 +13,7 @@ use Rattle.descriptor.specs.Answers.{movedOf, failedOf}
 use Rattle.descriptor.specs.declared.Answer.{Answer}
 use Rattle.descriptor.proofs.Turns.{Reached, goes-on, all-done, no-more}
 use Rattle.intake.specs.Fills.{Fills}
+use Rattle.intake.specs.declared.Filled.{Filled}
 use Rattle.intake.proofs.fill.Statement.{statement}
 use Rattle.intake.proofs.fill.Tie as tie
 
@@ -43,12 +44,17 @@ at-read c = turned _ _ _ _ (omega arith) (c .read .kept .1 .0) (c .read .ensures
 abbrev Within : ℕ → List ℕ → Type 0
 Within n l = (n ≤ length l) × (n ≡ length (take n l))
 
+abbrev filled : ℕ → Bool → Answer → Filled
+filled done failed last = record { count = done; failed = failed; last = last }
+
 stopped :
     (done : ℕ) (l : List ℕ) (last : Answer) (failed : Bool) → done < length l → done + last .asked ≡ length l → movedOf (last .got) ≡ 0 →
-    failed ≡ failedOf (last .got) → Within done l × Fills (length l) done failed last
+    failed ≡ failedOf (last .got) → Within done l × Fills (length l) (filled done failed last)
 stopped done l last failed h e m f = ((omega arith, sym (length-take-le done l (omega arith))), inr ((h, (e, m)), f))
 
-full : (done : ℕ) (l : List ℕ) (last : Answer) → done ≡ length l → Reached (length l) done last → Within done l × Fills (length l) done false last
+full :
+    (done : ℕ) (l : List ℕ) (last : Answer) → done ≡ length l → Reached (length l) done last →
+    Within done l × Fills (length l) (filled done false last)
 full done l last e r = ((omega arith, sym (length-take-le done l (omega arith))), inl (all-done (length l) done last r e, refl))
 
 none-requires : tie.Need-none-requires Inv-loop μ-loop
