@@ -9,7 +9,8 @@ use mathlib.Core.Option.{Option, none}
 use lib.ListN.{length, getD, set}
 use lib.Seq.{getD-set-same, getD-set-other}
 use Rattle.sets.specs.Bits.{member, union, difference, removed}
-use Rattle.sets.proofs.Bits.{by-member, member-union-left, member-union-right, member-union-cases, member-difference, member-removed-same, member-removed-other, member-within, subset-member}
+use Rattle.sets.proofs.Bits.{by-member, member-union-left, member-union-right, member-union-cases, member-difference}
+use Rattle.sets.proofs.Bits.{member-removed-same, member-removed-other, member-within, subset-member}
 use Rattle.permutation.specs.Swaps.{Swaps, act, inverse, Within}
 use Rattle.permutation.proofs.Swaps.{by-eq, act-inverse, inverse-act, within, within-inverse}
 use Rattle.problem.specs.Problem.{Node, unit-form, atom-form, abstraction-form, pair-form, application-form, suspension-form, formAt, Problem}
@@ -27,11 +28,13 @@ use Rattle.fresh.proofs.Sent.{sent-member, member-is-sent}
 -- ---- without tables
 
 module _ {nodes : List Node} {value : ℕ → Option Side} where
-  pub reached-through : {S T : pairs.Pair → Type 0} → ((w : pairs.Pair) → T w → Reached nodes value S w) → {w : pairs.Pair} → Reached nodes value T w → Reached nodes value S w
+  pub reached-through : {S T : pairs.Pair → Type 0} → ((w : pairs.Pair) → T w → Reached nodes value S w)
+      → {w : pairs.Pair} → Reached nodes value T w → Reached nodes value S w
   reached-through h (start t) = h _ t
   reached-through h (further r l) = further (reached-through h r) l
 
-pub looked-more : (nodes : List Node) (value : ℕ → Option Side) {Before After : pairs.Pair → Type 0} → ((w : pairs.Pair) → Before w → After w) → (w : pairs.Pair)
+pub looked-more : (nodes : List Node) (value : ℕ → Option Side) {Before After : pairs.Pair → Type 0}
+    → ((w : pairs.Pair) → Before w → After w) → (w : pairs.Pair)
     → Looked nodes value Before w → Looked nodes value After w
 looked-more nodes value h (of-node a n) c = λ v l. h v (c v l)
 looked-more nodes value h (of-variable a X) c = tt
@@ -41,16 +44,22 @@ module _ {nodes : List Node} {value : ℕ → Option Side} where
   grown-none = record { kept = λ w h. h; new = λ w h. inl h }
 
   pub grown-more : {S A B C : pairs.Pair → Type 0} → Grown nodes value S A B → Grown nodes value S B C → Grown nodes value S A C
-  grown-more g h = record {
+  grown-more {S} {A} {B} {C} g h = record {
     kept = λ w k. h .kept w (g .kept w k);
-    new = λ w k. ⊎-elim (λ b. ⊎-elim (λ a. inl a) (λ r. inr (r .0, looked-more nodes value (h .kept) w (r .1))) (g .new w b)) (λ r. inr r) (h .new w k);
+    new = λ w k. ⊎-elim (earlier w) (λ r. inr r) (h .new w k);
   }
+    where
+      -- What the first growth marked stays looked through.
+      earlier : (w : pairs.Pair) → B w → A w ⊎ (Reached nodes value S w × Looked nodes value C w)
+      earlier w b = ⊎-elim (λ a. inl a) (λ r. inr (r .0, looked-more nodes value (h .kept) w (r .1))) (g .new w b)
 
-  pub grown-from : {S T A B : pairs.Pair → Type 0} → ((w : pairs.Pair) → T w → Reached nodes value S w) → Grown nodes value T A B → Grown nodes value S A B
+  pub grown-from : {S T A B : pairs.Pair → Type 0} → ((w : pairs.Pair) → T w → Reached nodes value S w)
+      → Grown nodes value T A B → Grown nodes value S A B
   grown-from h g = record { kept = g .kept; new = λ w k. ⊎-elim (λ a. inl a) (λ r. inr (reached-through h (r .0), r .1)) (g .new w k) }
 
   -- Marks are set first, and then what they lead to.
-  pub grown-start : {S A B C : pairs.Pair → Type 0} → ((w : pairs.Pair) → A w → B w) → ((w : pairs.Pair) → B w → A w ⊎ (Reached nodes value S w × Looked nodes value C w)) → Grown nodes value S B C
+  pub grown-start : {S A B C : pairs.Pair → Type 0} → ((w : pairs.Pair) → A w → B w)
+      → ((w : pairs.Pair) → B w → A w ⊎ (Reached nodes value S w × Looked nodes value C w)) → Grown nodes value S B C
       → Grown nodes value S A C
   grown-start up down g = record { kept = λ w k. g .kept w (up w k); new = λ w k. ⊎-elim (down w) (λ r. inr r) (g .new w k) }
 
@@ -63,7 +72,8 @@ Follows Mark a (pair-form l r) = Mark (of-node a l) × Mark (of-node a r)
 Follows Mark a (application-form f m) = Mark (of-node a m)
 Follows Mark a (suspension-form π X) = Mark (of-variable (act (inverse π) a) X)
 
-closed-by : {nodes : List Node} {value : ℕ → Option Side} (Mark : pairs.Pair → Type 0) (a n : ℕ) (f : Node) → formAt nodes n ≡ f → Follows Mark a f → Closed nodes value Mark (of-node a n)
+closed-by : {nodes : List Node} {value : ℕ → Option Side} (Mark : pairs.Pair → Type 0) (a n : ℕ) (f : Node)
+    → formAt nodes n ≡ f → Follows Mark a f → Closed nodes value Mark (of-node a n)
 closed-by Mark a n f e h w (to-body q d) = subst (Follows Mark a) (sym e ∙ q) h d
 closed-by Mark a n f e h w (to-argument q) = subst (Follows Mark a) (sym e ∙ q) h
 closed-by Mark a n f e h w (to-left q) = subst (Follows Mark a) (sym e ∙ q) h .0
@@ -84,18 +94,22 @@ row-other t i more j d = getD-set-other t i j (union (getD t i 0) more) 0 d
 pub row-kept : (t : List ℕ) (i more j a : ℕ) → i < length t → member (getD t j 0) a ≡ true → member (getD (added t i more) j 0) a ≡ true
 row-kept t i more j a h e =
     by-eq j i
-    (λ q. ap (λ (k : ℕ). member (getD (added t i more) k 0) a) q ∙ ap (λ (w : ℕ). member w a) (row-same t i more h) ∙ member-union-left (getD t i 0) more a (ap (λ (k : ℕ). member (getD t k 0) a) (sym q) ∙ e))
+    (λ q.
+    ap (λ (k : ℕ). member (getD (added t i more) k 0) a) q ∙ ap (λ (w : ℕ). member w a) (row-same t i more h)
+    ∙ member-union-left (getD t i 0) more a (ap (λ (k : ℕ). member (getD t k 0) a) (sym q) ∙ e))
     (λ d. ap (λ (w : ℕ). member w a) (row-other t i more j d) ∙ e)
 
 pub row-new : (t : List ℕ) (i more a : ℕ) → i < length t → member more a ≡ true → member (getD (added t i more) i 0) a ≡ true
 row-new t i more a h e = ap (λ (w : ℕ). member w a) (row-same t i more h) ∙ member-union-right (getD t i 0) more a e
 
-pub row-cases : (t : List ℕ) (i more j a : ℕ) → i < length t → member (getD (added t i more) j 0) a ≡ true → (member (getD t j 0) a ≡ true) ⊎ ((j ≡ i) × (member more a ≡ true))
+pub row-cases : (t : List ℕ) (i more j a : ℕ) → i < length t → member (getD (added t i more) j 0) a ≡ true
+    → (member (getD t j 0) a ≡ true) ⊎ ((j ≡ i) × (member more a ≡ true))
 row-cases t i more j a h e =
     by-eq j i
     (λ q.
     ⊎-elim (λ k. inl (ap (λ (k : ℕ). member (getD t k 0) a) q ∙ k)) (λ k. inr (q, k))
-    (member-union-cases (getD t i 0) more a (sym (ap (λ (w : ℕ). member w a) (row-same t i more h)) ∙ ap (λ (k : ℕ). member (getD (added t i more) k 0) a) (sym q) ∙ e)))
+    (member-union-cases (getD t i 0) more a
+    (sym (ap (λ (w : ℕ). member w a) (row-same t i more h)) ∙ ap (λ (k : ℕ). member (getD (added t i more) k 0) a) (sym q) ∙ e)))
     (λ d. inl (sym (ap (λ (w : ℕ). member w a) (row-other t i more j d)) ∙ e))
 
 -- ---- visiting
@@ -125,7 +139,8 @@ module _ (p : Problem) (atoms n : ℕ) (seen asked : List ℕ) (few : n < length
   pub visited-again : difference atoms (getD seen n 0) ≡ 0 → Visited (p .nodes) atoms n (Marked p seen asked) (Marked p seen asked)
   visited-again e = record { grown = λ value. grown-none; here = λ a h. (few, subset-member atoms (getD seen n 0) a e h) }
 
-  module _ (new : ℕ) (is-new : new ≡ difference atoms (getD seen n 0)) (l : n < length seen) (seen₁ : List ℕ) (is-seen : seen₁ ≡ added seen n new) where
+  module _ (new : ℕ) (is-new : new ≡ difference atoms (getD seen n 0)) (l : n < length seen)
+      (seen₁ : List ℕ) (is-seen : seen₁ ≡ added seen n new) where
     among-atoms : (a : ℕ) → member new a ≡ true → member atoms a ≡ true
     among-atoms a e = difference-left atoms (getD seen n 0) a (ap (λ (w : ℕ). member w a) (sym is-new) ∙ e)
 
@@ -155,7 +170,8 @@ module _ (p : Problem) (atoms n : ℕ) (seen asked : List ℕ) (few : n < length
         here = λ a h. grow (λ X. none) .kept (of-node a n) (set-here a h);
       }
         where
-          found : (value : ℕ → Option Side) (w : pairs.Pair) → Only new n w → Reached (p .nodes) value (Only atoms n) w × Looked (p .nodes) value After w
+          found : (value : ℕ → Option Side) (w : pairs.Pair) → Only new n w
+              → Reached (p .nodes) value (Only atoms n) w × Looked (p .nodes) value After w
           found value (of-node a m) (q, h) = (rw q (begin value a h), rw q (closed-by After a n f e (follows a h)))
           found value (of-variable a X) h = absurd h
 
@@ -168,7 +184,8 @@ module _ (p : Problem) (atoms n : ℕ) (seen asked : List ℕ) (few : n < length
     pub visited-abstraction : {After : pairs.Pair → Type 0} (b m rest : ℕ) → formAt (p .nodes) n ≡ abstraction-form b m → rest ≡ removed new b
         → Visited (p .nodes) rest m (Marked p seen₁ asked) After → Visited (p .nodes) atoms n (Marked p seen asked) After
     visited-abstraction {After} b m rest e is-rest v =
-        visited-by After (abstraction-form b m) e (λ value. grown-from (from value) (v .grown value)) (λ a h d. v .here a (rw is-rest (member-removed-other new b a d ∙ h)))
+        visited-by After (abstraction-form b m) e (λ value. grown-from (from value) (v .grown value))
+        (λ a h d. v .here a (rw is-rest (member-removed-other new b a d ∙ h)))
       where
         from : (value : ℕ → Option Side) (w : pairs.Pair) → Only rest m w → Reached (p .nodes) value (Only atoms n) w
         from value (of-node a i) (q, h) =
@@ -178,7 +195,8 @@ module _ (p : Problem) (atoms n : ℕ) (seen asked : List ℕ) (few : n < length
 
     pub visited-application : {After : pairs.Pair → Type 0} (f m : ℕ) → formAt (p .nodes) n ≡ application-form f m
         → Visited (p .nodes) new m (Marked p seen₁ asked) After → Visited (p .nodes) atoms n (Marked p seen asked) After
-    visited-application {After} f m e v = visited-by After (application-form f m) e (λ value. grown-from (from value) (v .grown value)) (λ a h. v .here a h)
+    visited-application {After} f m e v =
+        visited-by After (application-form f m) e (λ value. grown-from (from value) (v .grown value)) (λ a h. v .here a h)
       where
         from : (value : ℕ → Option Side) (w : pairs.Pair) → Only new m w → Reached (p .nodes) value (Only atoms n) w
         from value (of-node a i) (q, h) = rw q (further (begin value a h) (to-argument e))
@@ -194,32 +212,42 @@ module _ (p : Problem) (atoms n : ℕ) (seen asked : List ℕ) (few : n < length
       right value (of-variable a X) h = absurd h
 
       -- Both parts visited, the left one first or the right one first.
-      pub visited-pair : {Between After : pairs.Pair → Type 0} → Visited (p .nodes) new x (Marked p seen₁ asked) Between → Visited (p .nodes) new y Between After
+      pub visited-pair : {Between After : pairs.Pair → Type 0}
+          → Visited (p .nodes) new x (Marked p seen₁ asked) Between → Visited (p .nodes) new y Between After
           → Visited (p .nodes) atoms n (Marked p seen asked) After
       visited-pair {Between} {After} v w =
           visited-by After (pair-form x y) e (λ value. grown-more (grown-from (left value) (v .grown value)) (grown-from (right value) (w .grown value)))
           (λ a h. (w .grown (λ X. none) .kept (of-node a x) (v .here a h), w .here a h))
 
-      pub visited-pair-right : {Between After : pairs.Pair → Type 0} → Visited (p .nodes) new y (Marked p seen₁ asked) Between → Visited (p .nodes) new x Between After
+      pub visited-pair-right : {Between After : pairs.Pair → Type 0}
+          → Visited (p .nodes) new y (Marked p seen₁ asked) Between → Visited (p .nodes) new x Between After
           → Visited (p .nodes) atoms n (Marked p seen asked) After
       visited-pair-right {Between} {After} v w =
           visited-by After (pair-form x y) e (λ value. grown-more (grown-from (right value) (v .grown value)) (grown-from (left value) (w .grown value)))
           (λ a h. (w .here a h, w .grown (λ X. none) .kept (of-node a y) (v .here a h)))
 
     -- A pair of one node with itself: a second visit would find nothing new.
-    pub visited-twins : {After : pairs.Pair → Type 0} (x y : ℕ) → formAt (p .nodes) n ≡ pair-form x y → x ≡ y → Visited (p .nodes) new y (Marked p seen₁ asked) After
+    pub visited-twins : {After : pairs.Pair → Type 0} (x y : ℕ) → formAt (p .nodes) n ≡ pair-form x y → x ≡ y
+        → Visited (p .nodes) new y (Marked p seen₁ asked) After
         → Visited (p .nodes) atoms n (Marked p seen asked) After
     visited-twins x y e q v = visited-pair x y e (rw q v) (record { grown = λ value. grown-none; here = v .here })
 
     -- "for a suspension if the atom sent to a is fresh for its variable"
-    pub visited-suspension : (π : Swaps) (X : ℕ) (asked₁ : List ℕ) → formAt (p .nodes) n ≡ suspension-form π X → asked₁ ≡ added asked X (sentInto 32 (act π) new) → Within 32 π → X < p .variables
-        → X < length asked → new < 2 ^ 32 → Visited (p .nodes) atoms n (Marked p seen asked) (Marked p seen₁ asked₁)
+    pub visited-suspension : (π : Swaps) (X : ℕ) (asked₁ : List ℕ) → formAt (p .nodes) n ≡ suspension-form π X
+        → asked₁ ≡ added asked X (sentInto 32 (act π) new) → Within 32 π → X < p .variables → X < length asked → new < 2 ^ 32
+        → Visited (p .nodes) atoms n (Marked p seen asked) (Marked p seen₁ asked₁)
     visited-suspension π X asked₁ e is-asked k few-variables la small =
         visited-by After (suspension-form π X) e (λ value. record { kept = up; new = down value })
-        (λ a h. (few-variables, rw is-asked (row-new asked X sent _ la (member-is-sent 32 (act π) new _ a (within 32 (inverse π) a (within-inverse 32 π k) (member-within 32 new a small h)) (act-inverse π a) h))))
+        (λ a h. (few-variables, rw is-asked (row-new asked X sent _ la (sent-back a h))))
       where
         sent : ℕ
         sent = sentInto 32 (act π) new
+
+        -- The atom that π sends to a new one is among those sent.
+        sent-back : (a : ℕ) → member new a ≡ true → member sent (act (inverse π) a) ≡ true
+        sent-back a h =
+            member-is-sent 32 (act π) new _ a (within 32 (inverse π) a (within-inverse 32 π k) (member-within 32 new a small h))
+            (act-inverse π a) h
 
         After : pairs.Pair → Type 0
         After = Marked p seen₁ asked₁
@@ -228,7 +256,8 @@ module _ (p : Problem) (atoms n : ℕ) (seen asked : List ℕ) (few : n < length
         up (of-node a m) h = h
         up (of-variable a Y) h = (h .0, rw is-asked (row-kept asked X sent Y a la (h .1)))
 
-        down : (value : ℕ → Option Side) (w : pairs.Pair) → After w → Marked p seen₁ asked w ⊎ (Reached (p .nodes) value (Only atoms n) w × Looked (p .nodes) value After w)
+        down : (value : ℕ → Option Side) (w : pairs.Pair) → After w
+            → Marked p seen₁ asked w ⊎ (Reached (p .nodes) value (Only atoms n) w × Looked (p .nodes) value After w)
         down value (of-node a m) h = inl h
         down value (of-variable a Y) h =
             ⊎-elim (λ q. inl (h .0, q))
@@ -241,7 +270,8 @@ module _ (p : Problem) (atoms n : ℕ) (seen asked : List ℕ) (few : n < length
 -- What is visited further on completes the visit that began: the tables are those of the beginning and those of now.
 abbrev pub Onward : Problem → ℕ → ℕ → List ℕ → List ℕ → ℕ → ℕ → List ℕ → List ℕ → Type 0
 Onward p atoms n seen₀ asked₀ more m seen asked =
-    (seen₁ asked₁ : List ℕ) → Visited (p .nodes) more m (Marked p seen asked) (Marked p seen₁ asked₁) → Visited (p .nodes) atoms n (Marked p seen₀ asked₀) (Marked p seen₁ asked₁)
+    (seen₁ asked₁ : List ℕ) → Visited (p .nodes) more m (Marked p seen asked) (Marked p seen₁ asked₁)
+    → Visited (p .nodes) atoms n (Marked p seen₀ asked₀) (Marked p seen₁ asked₁)
 
 -- ---- the form, as the code is told it
 

@@ -4,15 +4,19 @@ use borrow.Author.Tests.{eqb-true}
 use native.Mathlib.Omega.{arith}
 use borrow.Author.Needs.{needs}
 use mathlib.Core.Path.{_≡_, sym, _∙_, ap}
+use mathlib.Core.List.{List}
 use lib.ListN.{length, getD}
 use Rattle.sets.specs.Bits.{difference}
-use Rattle.problem.specs.Problem.{formAt}
+use Rattle.problem.specs.Problem.{Node, pair-form, formAt, Problem}
+use Rattle.problem.specs.Readable.{Named}
 use Rattle.problem.specs.Held.{problemOf}
 use Rattle.problem.specs.Look.{swapsOf}
 use Rattle.problem.specs.declared.Form.{Form}
-use Rattle.fresh.specs.Marks.{Standing, added}
-use Rattle.fresh.proofs.Growth.{Onward, visited-again, visited-unit, visited-atom, visited-abstraction, visited-application, visited-pair, visited-pair-right, visited-twins, visited-suspension, untold, told-back, suspended-by, named-by, swaps-within}
-use Prim.Native.Nat.{ℕ, _≤_, _<_}
+use Rattle.fresh.specs.Marks.{Standing, Marked, added, Visited}
+use Rattle.fresh.proofs.Growth.{Onward, visited-again, visited-unit, visited-atom, visited-abstraction, visited-application}
+use Rattle.fresh.proofs.Growth.{visited-pair, visited-pair-right, visited-twins, visited-suspension}
+use Rattle.fresh.proofs.Growth.{untold, told-back, suspended-by, named-by, swaps-within}
+use Prim.Native.Nat.{ℕ, _≤_, _<_, _^_}
 use borrow.Fn.Kinds.{In}
 use borrow.Fn.PlainCycle.{Measures, is, falls, and}
 use Rattle.fresh.proofs.visit.Reads as visit
@@ -31,54 +35,13 @@ use Rattle.fresh.proofs.+visit.Tie.{close}
 abbrev μ-visit : Measures 4 visit-kinds.ps ℕ
 μ-visit κs a = a .1 .1 .1 .0 .0
 
-abbrev visit-at : ℕ → In 4 visit-kinds.ps
-visit-at t = and 4 visit-kinds.ps (is 4 visit-kinds.ps μ-visit t) visit.Pre
-
-abbrev visit-below : ℕ → In 4 visit-kinds.ps
-visit-below t = and 4 visit-kinds.ps (falls 4 visit-kinds.ps _<_ μ-visit t) visit.Pre
-
 abbrev Inv : visit-lts.InvT-loop
-Inv s places seen₀ asked-variables₀ more₀ at₀ seen asked-variables more at = (at .0 ≤ at₀ .0) × Onward (problemOf s) (more₀ .0) (at₀ .0) seen₀ asked-variables₀ (more .0) (at .0) seen asked-variables
+Inv s places seen₀ asked-variables₀ more₀ at₀ seen asked-variables more at =
+    (at .0 ≤ at₀ .0)
+    × Onward (problemOf s) (more₀ .0) (at₀ .0) seen₀ asked-variables₀ (more .0) (at .0) seen asked-variables
 
 abbrev μ : visit-lts.MeasureT-loop
 μ s places seen₀ asked-variables₀ more₀ at₀ seen asked-variables more at = at .0
-
-abbrev claims : ℕ → visit-lts.Claims
-claims t = (atoms-at-reads.Asked, atoms-at-reads.Learnt, minus-reads.Asked, minus-reads.Learnt, is-empty-reads.Asked, is-empty-reads.Learnt, add-atoms-reads.Asked, add-atoms-reads.Learnt, form-of-reads.Asked, form-of-reads.Learnt, without-reads.Asked, without-reads.Learnt, visit-below t, visit.Post, ask-reads.Asked, ask-reads.Learnt)
-
--- What is known at the start of a turn, where the new atoms are, and where the form is.
-abbrev Turn : ℕ → Type 0
-Turn t = visit-lts.After-struct-known (claims t) (visit-at t) visit.Post Inv μ
-
-abbrev Found : ℕ → Type 0
-Found t = visit-lts.After-minus (claims t) (visit-at t) visit.Post Inv μ
-
-abbrev Here : ℕ → Type 0
-Here t = visit-lts.After-form-of (claims t) (visit-at t) visit.Post Inv μ
-
-abbrev start : (t : ℕ) → Turn t → visit-lts.Start (claims t) (visit-at t) visit.Post Inv μ
-start t c = c .before .before .before
-
-abbrev turn : (t : ℕ) → Here t → Turn t
-turn t c = c .before .before .before .before .before .before .before .before .before
-
-few : (t : ℕ) (c : Turn t) → c .before .loop .at .0 < length (problemOf (start t c .args .s .now) .nodes)
-few t c = omega (arith, start t c .pre .1 .1, c .before .loop .inv .0)
-
-stands : (t : ℕ) (c : Turn t) → Standing (start t c .args .s .now) (start t c .args .places .now)
-stands t c = start t c .pre .1 .0
-
-is-new : (t : ℕ) (c : Found t) → c .minus .result .0 ≡ difference (c .before .before .before .before .before .loop .more .0) (getD (c .before .before .before .before .before .loop .seen) (c .before .before .before .before .before .loop .at .0) 0)
-is-new t c = c .minus .ensures ∙ ap (difference (c .before .before .before .before .before .loop .more .0)) (c .before .atoms-at .ensures)
-
-in-seen : (t : ℕ) (c : Here t) → c .before .before .before .before .before .before .before .before .before .before .loop .at .0 < length (c .before .before .before .before .before .before .before .before .before .before .loop .seen)
-in-seen t c = omega (arith, stands t (turn t c) .nodes (c .before .before .before .before .before .before .before .before .before .before .loop .at .0) (few t (turn t c)) .small, c .before .before .before .before .before .before .before .atoms-at-arg2 .given)
-
-is-seen : (t : ℕ) (c : Here t) → c .before .add-atoms .last .0 ≡ added (c .before .before .before .before .before .before .before .before .before .before .loop .seen) (c .before .before .before .before .before .before .before .before .before .before .loop .at .0) (c .before .before .before .before .before .minus .result .0)
-is-seen t c = c .before .add-atoms .ensures
-
-told : (t : ℕ) (c : Here t) {r : Form} → c .form-of .result ≡ r → formAt (problemOf (start t (turn t c) .args .s .now) .nodes) (c .before .before .before .before .before .before .before .before .before .before .loop .at .0) ≡ untold (swapsOf (formAt (problemOf (start t (turn t c) .args .s .now) .nodes) (c .before .before .before .before .before .before .before .before .before .before .loop .at .0))) r
-told t c q = told-back (formAt (problemOf (start t (turn t c) .args .s .now) .nodes) (c .before .before .before .before .before .before .before .before .before .before .loop .at .0)) (sym q ∙ c .form-of .ensures)
 
 lower : (a n b : ℕ) → a < n → n ≤ b → a < b
 lower a n b h k = omega arith
@@ -86,104 +49,342 @@ lower a n b h k = omega arith
 lower-part : (a n b : ℕ) → a < n → n ≤ b → a ≤ b
 lower-part a n b h k = omega arith
 
-visit-loop-holds : (t : ℕ) → visit-lts.Need-loop-holds (claims t) (visit-at t) visit.Post Inv μ
-visit-loop-holds t c = (omega arith, λ seen₁ asked₁ v. v)
+-- The visit of the node numbered t, where every node below it can be visited.
+module _ (t : ℕ) where
+  abbrev visit-at : In 4 visit-kinds.ps
+  visit-at = and 4 visit-kinds.ps (is 4 visit-kinds.ps μ-visit t) visit.Pre
 
-visit-cast-n : (t : ℕ) → visit-lts.Need-cast-n (claims t) (visit-at t) visit.Post Inv μ
-visit-cast-n t c = search needs
+  abbrev visit-below : In 4 visit-kinds.ps
+  visit-below = and 4 visit-kinds.ps (falls 4 visit-kinds.ps _<_ μ-visit t) visit.Pre
 
-visit-atoms-at-requires : (t : ℕ) → visit-lts.Need-atoms-at-requires (claims t) (visit-at t) visit.Post Inv μ
-visit-atoms-at-requires t c κs = omega (arith, stands t (c .before .before) .nodes (c .before .before .before .loop .at .0) (few t (c .before .before)) .small, c .atoms-at-arg2 .given)
+  abbrev claims : visit-lts.Claims
+  claims = (
+    atoms-at-reads.Asked,
+    atoms-at-reads.Learnt,
+    minus-reads.Asked,
+    minus-reads.Learnt,
+    is-empty-reads.Asked,
+    is-empty-reads.Learnt,
+    add-atoms-reads.Asked,
+    add-atoms-reads.Learnt,
+    form-of-reads.Asked,
+    form-of-reads.Learnt,
+    without-reads.Asked,
+    without-reads.Learnt,
+    visit-below,
+    visit.Post,
+    ask-reads.Asked,
+    ask-reads.Learnt,
+  )
 
-visit-minus-requires : (t : ℕ) → visit-lts.Need-minus-requires (claims t) (visit-at t) visit.Post Inv μ
-visit-minus-requires t c κs = search needs
+  -- ---- the places
 
-visit-is-empty-requires : (t : ℕ) → visit-lts.Need-is-empty-requires (claims t) (visit-at t) visit.Post Inv μ
-visit-is-empty-requires t c κs = search needs
+  -- What is known at the start of a turn, where the node's row is read, where the new atoms are, and where the form is.
+  abbrev Turn : Type 0
+  Turn = visit-lts.After-struct-known claims visit-at visit.Post Inv μ
 
-visit-returns : (t : ℕ) → visit-lts.Need-returns (claims t) (visit-at t) visit.Post Inv μ
-visit-returns t c = c .before .before .before .before .before .before .before .loop .inv .1 _ _ (visited-again _ _ _ _ _ (few t (c .before .before .before .before .before .before)) (sym (is-new t (c .before .before)) ∙ eqb-true _ 0 (sym (c .before .is-empty .ensures) ∙ c .if1 .taken)))
+  abbrev Row : Type 0
+  Row = visit-lts.After-atoms-at-arg2 claims visit-at visit.Post Inv μ
 
-visit-add-atoms-requires : (t : ℕ) → visit-lts.Need-add-atoms-requires (claims t) (visit-at t) visit.Post Inv μ
-visit-add-atoms-requires t c κs = omega (arith, stands t (c .before .before .before .before .before .before .before) .nodes (c .before .before .before .before .before .before .before .before .loop .at .0) (few t (c .before .before .before .before .before .before .before)) .small, c .before .before .before .before .before .atoms-at-arg2 .given, c .add-atoms-arg .given)
+  abbrev Found : Type 0
+  Found = visit-lts.After-minus claims visit-at visit.Post Inv μ
 
-visit-form-of-requires : (t : ℕ) → visit-lts.Need-form-of-requires (claims t) (visit-at t) visit.Post Inv μ
-visit-form-of-requires t c κs = stands t (c .before .before .before .before .before .before .before .before) .nodes _ (few t (c .before .before .before .before .before .before .before .before))
+  abbrev Here : Type 0
+  Here = visit-lts.After-form-of claims visit-at visit.Post Inv μ
 
-visit-enum-told : (t : ℕ) → visit-lts.Need-enum-told (claims t) (visit-at t) visit.Post Inv μ
-visit-enum-told t c = search needs
+  -- The form is known to be a pair, and then its parts to be two nodes.
+  abbrev Paired : Type 0
+  Paired = visit-lts.After-form3 claims visit-at visit.Post Inv μ
 
-visit-returns-2 : (t : ℕ) → visit-lts.Need-returns-2 (claims t) (visit-at t) visit.Post Inv μ
-visit-returns-2 t c = c .before .before .before .before .before .before .before .before .before .before .before .before .loop .inv .1 _ _ (visited-unit _ _ _ _ _ (few t (turn t (c .before .before))) _ (is-new t (c .before .before .before .before .before .before .before)) (in-seen t (c .before .before)) _ (is-seen t (c .before .before)) (told t (c .before .before) (c .enum-told .given .1)))
+  abbrev Apart : Type 0
+  Apart = visit-lts.After-struct-known5 claims visit-at visit.Post Inv μ
 
-visit-enum-known-form : (t : ℕ) → visit-lts.Need-enum-known-form (claims t) (visit-at t) visit.Post Inv μ
-visit-enum-known-form t c = search needs
+  -- ---- at the start of a turn
 
-visit-returns-3 : (t : ℕ) → visit-lts.Need-returns-3 (claims t) (visit-at t) visit.Post Inv μ
-visit-returns-3 t c = c .before .before .before .before .before .before .before .before .before .before .before .before .before .loop .inv .1 _ _ (visited-atom _ _ _ _ _ (few t (turn t (c .before .before .before))) _ (is-new t (c .before .before .before .before .before .before .before .before)) (in-seen t (c .before .before .before)) _ (is-seen t (c .before .before .before)) _ (told t (c .before .before .before) (c .before .form .given .1)))
+  module _ (c : Turn) where
+    -- Where the function was called.
+    abbrev start : visit-lts.Start claims visit-at visit.Post Inv μ
+    start = c .before .before .before
 
-visit-enum-known-form-2 : (t : ℕ) → visit-lts.Need-enum-known-form-2 (claims t) (visit-at t) visit.Post Inv μ
-visit-enum-known-form-2 t c = search needs
+    abbrev problem : Problem
+    problem = problemOf (start .args .s .now)
 
-visit-without-requires : (t : ℕ) → visit-lts.Need-without-requires (claims t) (visit-at t) visit.Post Inv μ
-visit-without-requires t c κs = search needs
+    -- The tables as they are, and the atoms and the node that are left to visit.
+    abbrev state : visit-lts.At-loop·own claims visit-at visit.Post Inv μ (c .before .before)
+    state = c .before .loop
 
-visit-loop-less : (t : ℕ) → visit-lts.Need-loop-less (claims t) (visit-at t) visit.Post Inv μ
-visit-loop-less t c = named-by (stands t (turn t (c .before .before .before .before))) _ _ (told t (c .before .before .before .before) (c .before .before .form2 .given .1)) .1
+    few : state .at .0 < length (problem .nodes)
+    few = omega (arith, start .pre .1 .1, state .inv .0)
 
-visit-loop-again : (t : ℕ) → visit-lts.Need-loop-again (claims t) (visit-at t) visit.Post Inv μ
-visit-loop-again t c = (lower-part _ _ _ (named-by (stands t (turn t (c .before .before .before .before))) _ _ (told t (c .before .before .before .before) (c .before .before .form2 .given .1)) .1) (c .before .before .before .before .before .before .before .before .before .before .before .before .before .before .loop .inv .0), λ seen₁ asked₁ v. c .before .before .before .before .before .before .before .before .before .before .before .before .before .before .loop .inv .1 seen₁ asked₁ (visited-abstraction _ _ _ _ _ (few t (turn t (c .before .before .before .before))) _ (is-new t (c .before .before .before .before .before .before .before .before .before)) (in-seen t (c .before .before .before .before)) _ (is-seen t (c .before .before .before .before)) _ _ _ (told t (c .before .before .before .before) (c .before .before .form2 .given .1)) (c .without .ensures) v))
+    stands : Standing (start .args .s .now) (start .args .places .now)
+    stands = start .pre .1 .0
 
-visit-enum-known-form-3 : (t : ℕ) → visit-lts.Need-enum-known-form-3 (claims t) (visit-at t) visit.Post Inv μ
-visit-enum-known-form-3 t c = search needs
+    -- A node below the turn's may be visited.
+    may-visit : (m : ℕ) → m < state .at .0
+        → (m < t) × (Standing (start .args .s .now) (start .args .places .now) × (m < length (problem .nodes)))
+    may-visit m h =
+        let k = lower _ _ _ h (state .inv .0) in
+        (rw (start .pre .0) at k, (stands, omega (arith, k, start .pre .1 .1)))
 
-visit-loop-less-2 : (t : ℕ) → visit-lts.Need-loop-less-2 (claims t) (visit-at t) visit.Post Inv μ
-visit-loop-less-2 t c = named-by (stands t (turn t (c .before .before .before .before .before .before))) _ _ (told t (c .before .before .before .before .before .before) (c .before .before .before .before .form3 .given .1)) .1
+    -- What the loop keeps at a turn's end, with the atoms and the node that are left to visit and the tables so far.
+    abbrev Goes-on : ℕ → ℕ → List ℕ → List ℕ → Type 0
+    Goes-on rest m seen asked =
+        (m ≤ start .args .node .0)
+        × Onward problem (start .args .atoms .0) (start .args .node .0) (start .args .seen .now)
+        (start .args .asked-variables .now) rest m seen asked
 
-visit-loop-again-2 : (t : ℕ) → visit-lts.Need-loop-again-2 (claims t) (visit-at t) visit.Post Inv μ
-visit-loop-again-2 t c = (lower-part _ _ _ (named-by (stands t (turn t (c .before .before .before .before .before .before))) _ _ (told t (c .before .before .before .before .before .before) (c .before .before .before .before .form3 .given .1)) .1) (c .before .before .before .before .before .before .before .before .before .before .before .before .before .before .before .before .loop .inv .0), λ seen₁ asked₁ v. c .before .before .before .before .before .before .before .before .before .before .before .before .before .before .before .before .loop .inv .1 seen₁ asked₁ (visited-twins _ _ _ _ _ (few t (turn t (c .before .before .before .before .before .before))) _ (is-new t (c .before .before .before .before .before .before .before .before .before .before .before)) (in-seen t (c .before .before .before .before .before .before)) _ (is-seen t (c .before .before .before .before .before .before)) _ _ (told t (c .before .before .before .before .before .before) (c .before .before .before .before .form3 .given .1)) (c .if2 .taken) v))
+    -- The node that is left is below this turn's, and its visit completes this turn's: so it completes the whole visit.
+    goes-on : (rest m : ℕ) (seen asked : List ℕ) → m < state .at .0
+        → Onward problem (state .more .0) (state .at .0) (state .seen) (state .asked-variables) rest m seen asked
+        → Goes-on rest m seen asked
+    goes-on rest m seen asked h next =
+        (lower-part _ _ _ h (state .inv .0), λ seen₁ asked₁ v. state .inv .1 seen₁ asked₁ (next seen₁ asked₁ v))
 
-visit-visit-requires : (t : ℕ) → visit-lts.Need-visit-requires (claims t) (visit-at t) visit.Post Inv μ
-visit-visit-requires t c κs = let h = lower _ _ _ (named-by (stands t (turn t (c .before .before .before .before .before .before .before .before .before .before .before))) _ _ (told t (c .before .before .before .before .before .before .before .before .before .before .before) (c .before .before .before .before .before .before .before .before .before .form3 .given .1)) .0) (c .before .before .before .before .before .before .before .before .before .before .before .before .before .before .before .before .before .before .before .before .before .loop .inv .0) in
-    (rw (c .before .before .before .before .before .before .before .before .before .before .before .before .before .before .before .before .before .before .before .before .before .before .before .pre .0) at h, (c .before .before .before .before .before .before .before .before .before .before .before .before .before .before .before .before .before .before .before .before .before .before .before .pre .1 .0, omega (arith, h, c .before .before .before .before .before .before .before .before .before .before .before .before .before .before .before .before .before .before .before .before .before .before .before .pre .1 .1)))
+  -- ---- at the node's row
 
-visit-loop-less-3 : (t : ℕ) → visit-lts.Need-loop-less-3 (claims t) (visit-at t) visit.Post Inv μ
-visit-loop-less-3 t c = named-by (stands t (turn t (c .before .before .before .before .before .before .before .before .before .before .before .before))) _ _ (told t (c .before .before .before .before .before .before .before .before .before .before .before .before) (c .before .before .before .before .before .before .before .before .before .before .form3 .given .1)) .1
+  module _ (c : Row) where
+    abbrev row-turn : Turn
+    row-turn = c .before .before
 
-visit-loop-again-3 : (t : ℕ) → visit-lts.Need-loop-again-3 (claims t) (visit-at t) visit.Post Inv μ
-visit-loop-again-3 t c = (lower-part _ _ _ (named-by (stands t (turn t (c .before .before .before .before .before .before .before .before .before .before .before .before))) _ _ (told t (c .before .before .before .before .before .before .before .before .before .before .before .before) (c .before .before .before .before .before .before .before .before .before .before .form3 .given .1)) .1) (c .before .before .before .before .before .before .before .before .before .before .before .before .before .before .before .before .before .before .before .before .before .before .loop .inv .0), λ seen₁ asked₁ v. c .before .before .before .before .before .before .before .before .before .before .before .before .before .before .before .before .before .before .before .before .before .before .loop .inv .1 seen₁ asked₁ (visited-pair _ _ _ _ _ (few t (turn t (c .before .before .before .before .before .before .before .before .before .before .before .before))) _ (is-new t (c .before .before .before .before .before .before .before .before .before .before .before .before .before .before .before .before .before)) (in-seen t (c .before .before .before .before .before .before .before .before .before .before .before .before)) _ (is-seen t (c .before .before .before .before .before .before .before .before .before .before .before .before)) _ _ (told t (c .before .before .before .before .before .before .before .before .before .before .before .before) (c .before .before .before .before .before .before .before .before .before .before .form3 .given .1)) (c .visit .ensures) v))
+    -- The node has a row in the table.
+    in-row : state row-turn .at .0 < length (state row-turn .seen)
+    in-row = omega (arith, stands row-turn .nodes (state row-turn .at .0) (few row-turn) .small, c .atoms-at-arg2 .given)
 
-visit-visit-requires-2 : (t : ℕ) → visit-lts.Need-visit-requires-2 (claims t) (visit-at t) visit.Post Inv μ
-visit-visit-requires-2 t c κs = let h = lower _ _ _ (named-by (stands t (turn t (c .before .before .before .before .before .before .before .before .before .before .before))) _ _ (told t (c .before .before .before .before .before .before .before .before .before .before .before) (c .before .before .before .before .before .before .before .before .before .form3 .given .1)) .1) (c .before .before .before .before .before .before .before .before .before .before .before .before .before .before .before .before .before .before .before .before .before .loop .inv .0) in
-    (rw (c .before .before .before .before .before .before .before .before .before .before .before .before .before .before .before .before .before .before .before .before .before .before .before .pre .0) at h, (c .before .before .before .before .before .before .before .before .before .before .before .before .before .before .before .before .before .before .before .before .before .before .before .pre .1 .0, omega (arith, h, c .before .before .before .before .before .before .before .before .before .before .before .before .before .before .before .before .before .before .before .before .before .before .before .pre .1 .1)))
+  -- ---- at the new atoms
 
-visit-loop-less-4 : (t : ℕ) → visit-lts.Need-loop-less-4 (claims t) (visit-at t) visit.Post Inv μ
-visit-loop-less-4 t c = named-by (stands t (turn t (c .before .before .before .before .before .before .before .before .before .before .before .before))) _ _ (told t (c .before .before .before .before .before .before .before .before .before .before .before .before) (c .before .before .before .before .before .before .before .before .before .before .form3 .given .1)) .0
+  module _ (c : Found) where
+    abbrev row : Row
+    row = c .before .before
 
-visit-loop-again-4 : (t : ℕ) → visit-lts.Need-loop-again-4 (claims t) (visit-at t) visit.Post Inv μ
-visit-loop-again-4 t c = (lower-part _ _ _ (named-by (stands t (turn t (c .before .before .before .before .before .before .before .before .before .before .before .before))) _ _ (told t (c .before .before .before .before .before .before .before .before .before .before .before .before) (c .before .before .before .before .before .before .before .before .before .before .form3 .given .1)) .0) (c .before .before .before .before .before .before .before .before .before .before .before .before .before .before .before .before .before .before .before .before .before .before .loop .inv .0), λ seen₁ asked₁ v. c .before .before .before .before .before .before .before .before .before .before .before .before .before .before .before .before .before .before .before .before .before .before .loop .inv .1 seen₁ asked₁ (visited-pair-right _ _ _ _ _ (few t (turn t (c .before .before .before .before .before .before .before .before .before .before .before .before))) _ (is-new t (c .before .before .before .before .before .before .before .before .before .before .before .before .before .before .before .before .before)) (in-seen t (c .before .before .before .before .before .before .before .before .before .before .before .before)) _ (is-seen t (c .before .before .before .before .before .before .before .before .before .before .before .before)) _ _ (told t (c .before .before .before .before .before .before .before .before .before .before .before .before) (c .before .before .before .before .before .before .before .before .before .before .form3 .given .1)) (c .visit2 .ensures) v))
+    abbrev found-turn : Turn
+    found-turn = row-turn row
 
-visit-enum-known-form-4 : (t : ℕ) → visit-lts.Need-enum-known-form-4 (claims t) (visit-at t) visit.Post Inv μ
-visit-enum-known-form-4 t c = search needs
+    abbrev new : ℕ
+    new = c .minus .result .0
 
-visit-loop-less-5 : (t : ℕ) → visit-lts.Need-loop-less-5 (claims t) (visit-at t) visit.Post Inv μ
-visit-loop-less-5 t c = named-by (stands t (turn t (c .before .before .before))) _ _ (told t (c .before .before .before) (c .before .form4 .given .1))
+    is-new : new ≡ difference (state found-turn .more .0) (getD (state found-turn .seen) (state found-turn .at .0) 0)
+    is-new = c .minus .ensures ∙ ap (difference (state found-turn .more .0)) (c .before .atoms-at .ensures)
 
-visit-loop-again-5 : (t : ℕ) → visit-lts.Need-loop-again-5 (claims t) (visit-at t) visit.Post Inv μ
-visit-loop-again-5 t c = (lower-part _ _ _ (named-by (stands t (turn t (c .before .before .before))) _ _ (told t (c .before .before .before) (c .before .form4 .given .1))) (c .before .before .before .before .before .before .before .before .before .before .before .before .before .loop .inv .0), λ seen₁ asked₁ v. c .before .before .before .before .before .before .before .before .before .before .before .before .before .loop .inv .1 seen₁ asked₁ (visited-application _ _ _ _ _ (few t (turn t (c .before .before .before))) _ (is-new t (c .before .before .before .before .before .before .before .before)) (in-seen t (c .before .before .before)) _ (is-seen t (c .before .before .before)) _ _ (told t (c .before .before .before) (c .before .form4 .given .1)) v))
+    small : new < 2 ^ 32
+    small = omega arith
 
-visit-enum-known-form-5 : (t : ℕ) → visit-lts.Need-enum-known-form-5 (claims t) (visit-at t) visit.Post Inv μ
-visit-enum-known-form-5 t c = search needs
+  -- ---- at the form
 
-visit-ask-requires : (t : ℕ) → visit-lts.Need-ask-requires (claims t) (visit-at t) visit.Post Inv μ
-visit-ask-requires t c κs = let e = told t (c .before .before .before .before) (c .before .before .form5 .given .1) in
-    let z = stands t (turn t (c .before .before .before .before)) in
-    (z .nodes _ (few t (turn t (c .before .before .before .before))), suspended-by _ _ _ e, swaps-within z _, omega (arith, named-by z _ _ e .0, z .readable .few-variables))
+  module _ (c : Here) where
+    abbrev found : Found
+    found = c .before .before .before .before .before
 
-visit-returns-4 : (t : ℕ) → visit-lts.Need-returns-4 (claims t) (visit-at t) visit.Post Inv μ
-visit-returns-4 t c = let e = told t (c .before .before .before .before .before) (c .before .before .before .form5 .given .1) in
-    let z = stands t (turn t (c .before .before .before .before .before)) in
-    c .before .before .before .before .before .before .before .before .before .before .before .before .before .before .before .loop .inv .1 _ _ (visited-suspension _ _ _ _ _ (few t (turn t (c .before .before .before .before .before))) _ (is-new t (c .before .before .before .before .before .before .before .before .before .before)) (in-seen t (c .before .before .before .before .before)) _ (is-seen t (c .before .before .before .before .before)) _ _ _ e (c .ask .ensures) (swaps-within z _) (named-by z _ _ e .0) (omega (arith, named-by z _ _ e .0, z .readable .few-variables, c .before .ask-arg .given)) (omega arith))
+    abbrev turn : Turn
+    turn = found-turn found
+
+    -- The table with the new atoms.
+    abbrev seen : List ℕ
+    seen = c .before .add-atoms .last .0
+
+    abbrev form : Node
+    form = formAt (problem turn .nodes) (state turn .at .0)
+
+    in-seen : state turn .at .0 < length (state turn .seen)
+    in-seen = in-row (row found)
+
+    is-seen : seen ≡ added (state turn .seen) (state turn .at .0) (new found)
+    is-seen = c .before .add-atoms .ensures
+
+    -- The form, as the code was told it.
+    told : {r : Form} → c .form-of .result ≡ r → form ≡ untold (swapsOf form) r
+    told q = told-back form (sym q ∙ c .form-of .ensures)
+
+    -- The form's parts are below the node, and its variable is one of the problem's.
+    named : {r : Form} → c .form-of .result ≡ r
+        → Named (problem turn .atoms) (problem turn .variables) (state turn .at .0) (untold (swapsOf form) r)
+    named q = named-by (stands turn) _ _ (told q)
+
+  -- ---- at a pair
+
+  module _ (c : Paired) where
+    abbrev pair-here : Here
+    pair-here = c .before .before
+
+    abbrev left : ℕ
+    left = c .form3 .given .0 .0 .0
+
+    abbrev right : ℕ
+    right = c .form3 .given .0 .1 .0 .0
+
+    is-pair : form pair-here ≡ pair-form left right
+    is-pair = told pair-here (c .form3 .given .1)
+
+    parts-below : (left < state (turn pair-here) .at .0) × (right < state (turn pair-here) .at .0)
+    parts-below = named pair-here (c .form3 .given .1)
+
+    -- The new atoms were visited at a part, up to the tables given.
+    abbrev Part-visited : ℕ → List ℕ → List ℕ → Type 0
+    Part-visited m seen₁ asked₁ =
+        Visited (problem (turn pair-here) .nodes) (new (found pair-here)) m
+        (Marked (problem (turn pair-here)) (seen pair-here) (state (turn pair-here) .asked-variables))
+        (Marked (problem (turn pair-here)) seen₁ asked₁)
+
+    -- The two parts are one node.
+    twins : left ≡ right → Goes-on (turn pair-here) (new (found pair-here)) right (seen pair-here) (state (turn pair-here) .asked-variables)
+    twins q =
+        goes-on (turn pair-here) _ _ _ _ (parts-below .1) λ seen₂ asked₂ w.
+        visited-twins _ _ _ _ _ (few (turn pair-here)) _ (is-new (found pair-here)) (in-seen pair-here) _ (is-seen pair-here)
+        left right is-pair q w
+
+    -- One part is visited, and the other is left.
+    left-first : (seen₁ asked₁ : List ℕ) → Part-visited left seen₁ asked₁
+        → Goes-on (turn pair-here) (new (found pair-here)) right seen₁ asked₁
+    left-first seen₁ asked₁ v =
+        goes-on (turn pair-here) _ _ _ _ (parts-below .1) λ seen₂ asked₂ w.
+        visited-pair _ _ _ _ _ (few (turn pair-here)) _ (is-new (found pair-here)) (in-seen pair-here) _ (is-seen pair-here)
+        left right is-pair v w
+
+    right-first : (seen₁ asked₁ : List ℕ) → Part-visited right seen₁ asked₁
+        → Goes-on (turn pair-here) (new (found pair-here)) left seen₁ asked₁
+    right-first seen₁ asked₁ v =
+        goes-on (turn pair-here) _ _ _ _ (parts-below .0) λ seen₂ asked₂ w.
+        visited-pair-right _ _ _ _ _ (few (turn pair-here)) _ (is-new (found pair-here)) (in-seen pair-here) _ (is-seen pair-here)
+        left right is-pair v w
+
+  abbrev paired : Apart → Paired
+  paired c = c .before .before .before .before .before .before
+
+  -- ---- what is to be shown, in the code's order
+
+  visit-loop-holds : visit-lts.Need-loop-holds claims visit-at visit.Post Inv μ
+  visit-loop-holds c = (omega arith, λ seen₁ asked₁ v. v)
+
+  visit-cast-n : visit-lts.Need-cast-n claims visit-at visit.Post Inv μ
+  visit-cast-n c = search needs
+
+  visit-atoms-at-requires : visit-lts.Need-atoms-at-requires claims visit-at visit.Post Inv μ
+  visit-atoms-at-requires c κs = in-row c
+
+  visit-minus-requires : visit-lts.Need-minus-requires claims visit-at visit.Post Inv μ
+  visit-minus-requires c κs = search needs
+
+  visit-is-empty-requires : visit-lts.Need-is-empty-requires claims visit-at visit.Post Inv μ
+  visit-is-empty-requires c κs = search needs
+
+  visit-returns : visit-lts.Need-returns claims visit-at visit.Post Inv μ
+  visit-returns c =
+      let began = found-turn (c .before .before) in
+      let none-new = sym (is-new (c .before .before)) ∙ eqb-true _ 0 (sym (c .before .is-empty .ensures) ∙ c .if1 .taken) in
+      state began .inv .1 _ _ (visited-again _ _ _ _ _ (few began) none-new)
+
+  visit-add-atoms-requires : visit-lts.Need-add-atoms-requires claims visit-at visit.Post Inv μ
+  visit-add-atoms-requires c κs = omega (arith, in-row (row (c .before .before .before)), c .add-atoms-arg .given)
+
+  visit-form-of-requires : visit-lts.Need-form-of-requires claims visit-at visit.Post Inv μ
+  visit-form-of-requires c κs =
+      let began = found-turn (c .before .before .before .before) in
+      stands began .nodes _ (few began)
+
+  visit-enum-told : visit-lts.Need-enum-told claims visit-at visit.Post Inv μ
+  visit-enum-told c = search needs
+
+  visit-returns-2 : visit-lts.Need-returns-2 claims visit-at visit.Post Inv μ
+  visit-returns-2 c =
+      let here = c .before .before in
+      state (turn here) .inv .1 _ _
+      (visited-unit _ _ _ _ _ (few (turn here)) _ (is-new (found here)) (in-seen here) _ (is-seen here)
+      (told here (c .enum-told .given .1)))
+
+  visit-enum-known-form : visit-lts.Need-enum-known-form claims visit-at visit.Post Inv μ
+  visit-enum-known-form c = search needs
+
+  visit-returns-3 : visit-lts.Need-returns-3 claims visit-at visit.Post Inv μ
+  visit-returns-3 c =
+      let here = c .before .before .before in
+      state (turn here) .inv .1 _ _
+      (visited-atom _ _ _ _ _ (few (turn here)) _ (is-new (found here)) (in-seen here) _ (is-seen here)
+      _ (told here (c .before .form .given .1)))
+
+  visit-enum-known-form-2 : visit-lts.Need-enum-known-form-2 claims visit-at visit.Post Inv μ
+  visit-enum-known-form-2 c = search needs
+
+  visit-without-requires : visit-lts.Need-without-requires claims visit-at visit.Post Inv μ
+  visit-without-requires c κs = search needs
+
+  visit-loop-less : visit-lts.Need-loop-less claims visit-at visit.Post Inv μ
+  visit-loop-less c = named (c .before .before .before .before) (c .before .before .form2 .given .1) .1
+
+  visit-loop-again : visit-lts.Need-loop-again claims visit-at visit.Post Inv μ
+  visit-loop-again c =
+      let here = c .before .before .before .before in
+      let known = c .before .before .form2 .given .1 in
+      goes-on (turn here) _ _ _ _ (named here known .1) λ seen₁ asked₁ v.
+      visited-abstraction _ _ _ _ _ (few (turn here)) _ (is-new (found here)) (in-seen here) _ (is-seen here)
+      _ _ _ (told here known) (c .without .ensures) v
+
+  visit-enum-known-form-3 : visit-lts.Need-enum-known-form-3 claims visit-at visit.Post Inv μ
+  visit-enum-known-form-3 c = search needs
+
+  visit-loop-less-2 : visit-lts.Need-loop-less-2 claims visit-at visit.Post Inv μ
+  visit-loop-less-2 c = parts-below (c .before .before .before .before) .1
+
+  visit-loop-again-2 : visit-lts.Need-loop-again-2 claims visit-at visit.Post Inv μ
+  visit-loop-again-2 c = twins (c .before .before .before .before) (c .if2 .taken)
+
+  visit-visit-requires : visit-lts.Need-visit-requires claims visit-at visit.Post Inv μ
+  visit-visit-requires c κs =
+      let pair = paired (c .before .before .before) in
+      may-visit (turn (pair-here pair)) _ (parts-below pair .0)
+
+  visit-loop-less-3 : visit-lts.Need-loop-less-3 claims visit-at visit.Post Inv μ
+  visit-loop-less-3 c = parts-below (paired (c .before .before .before .before)) .1
+
+  visit-loop-again-3 : visit-lts.Need-loop-again-3 claims visit-at visit.Post Inv μ
+  visit-loop-again-3 c = left-first (paired (c .before .before .before .before)) _ _ (c .visit .ensures)
+
+  visit-visit-requires-2 : visit-lts.Need-visit-requires-2 claims visit-at visit.Post Inv μ
+  visit-visit-requires-2 c κs =
+      let pair = paired (c .before .before .before) in
+      may-visit (turn (pair-here pair)) _ (parts-below pair .1)
+
+  visit-loop-less-4 : visit-lts.Need-loop-less-4 claims visit-at visit.Post Inv μ
+  visit-loop-less-4 c = parts-below (paired (c .before .before .before .before)) .0
+
+  visit-loop-again-4 : visit-lts.Need-loop-again-4 claims visit-at visit.Post Inv μ
+  visit-loop-again-4 c = right-first (paired (c .before .before .before .before)) _ _ (c .visit2 .ensures)
+
+  visit-enum-known-form-4 : visit-lts.Need-enum-known-form-4 claims visit-at visit.Post Inv μ
+  visit-enum-known-form-4 c = search needs
+
+  visit-loop-less-5 : visit-lts.Need-loop-less-5 claims visit-at visit.Post Inv μ
+  visit-loop-less-5 c = named (c .before .before .before) (c .before .form4 .given .1)
+
+  visit-loop-again-5 : visit-lts.Need-loop-again-5 claims visit-at visit.Post Inv μ
+  visit-loop-again-5 c =
+      let here = c .before .before .before in
+      let known = c .before .form4 .given .1 in
+      goes-on (turn here) _ _ _ _ (named here known) λ seen₁ asked₁ v.
+      visited-application _ _ _ _ _ (few (turn here)) _ (is-new (found here)) (in-seen here) _ (is-seen here)
+      _ _ (told here known) v
+
+  visit-enum-known-form-5 : visit-lts.Need-enum-known-form-5 claims visit-at visit.Post Inv μ
+  visit-enum-known-form-5 c = search needs
+
+  visit-ask-requires : visit-lts.Need-ask-requires claims visit-at visit.Post Inv μ
+  visit-ask-requires c κs =
+      let here = c .before .before .before .before in
+      let known = c .before .before .form5 .given .1 in
+      let z = stands (turn here) in (
+        z .nodes _ (few (turn here)),
+        suspended-by _ _ _ (told here known),
+        swaps-within z _,
+        omega (arith, named here known .0, z .readable .few-variables),
+      )
+
+  visit-returns-4 : visit-lts.Need-returns-4 claims visit-at visit.Post Inv μ
+  visit-returns-4 c =
+      let here = c .before .before .before .before .before in
+      let known = c .before .before .before .form5 .given .1 in
+      let z = stands (turn here) in
+      state (turn here) .inv .1 _ _
+      (visited-suspension _ _ _ _ _ (few (turn here)) _ (is-new (found here)) (in-seen here) _ (is-seen here)
+      _ _ _ (told here known) (c .ask .ensures) (swaps-within z _) (named here known .0)
+      (omega (arith, named here known .0, z .readable .few-variables, c .before .ask-arg .given)) (small (found here)))
 
 pub +visit-spec : {M : Type 1} → statement M
 +visit-spec = close μ-visit λ t. visit-lts.spec (claims t)
