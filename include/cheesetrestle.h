@@ -53,60 +53,42 @@ uint32_t cheesetrestle_version(void);
  * problems that can be built; README.md has what each entry took. One function of
  * the archive calls itself, at most 256 deep and 96 bytes each time; nothing else
  * grows with the problem. What a signal handler takes comes on top. */
-#define CHEESETRESTLE_STACK 106496
+#define CHEESETRESTLE_STACK 114688
 #define CHEESETRESTLE_STACK_LENT 28672
 
-/* What the solver and the judge work in. The content does not matter, neither
- * before nor after a call; one call at a time may use it. */
+/* What the solver and the judge work in: the input's places and assumptions, the
+ * variables in each node, the equations that wait, the bindings made, the demands,
+ * and the marks of resolving them. The content does not matter, neither before nor
+ * after a call; one call at a time may use it. */
 struct cheesetrestle_tables {
-    uint64_t node_variables[512];
+    uint16_t places[3][512];
     uint32_t assumed[64];
-    uint32_t asked_nodes[512];
-    uint32_t asked_variables[64];
-    uint32_t seen[512];
-    uint32_t done[64];
-    uint16_t places[512];
-    uint16_t equation_places[64];
-    uint16_t fresh_places[64];
-    uint16_t lefts[576];
-    uint16_t rights[576];
-    uint16_t roots[64];
-    uint8_t numbers[576];
-    uint8_t left_images[18432];
-    uint8_t right_images[18432];
-    uint8_t order[64];
-    uint8_t value_images[2048];
-    uint8_t made_by[64];
-    uint8_t first_nodes[16384];
-    uint8_t first_variables[2048];
+    uint64_t node_variables[512];
+    uint16_t heads[576][3];
+    uint8_t images[576][2][32];
+    uint16_t made[3][64];
+    uint8_t values[64][32];
+    uint32_t asked[2][512];
+    uint8_t firsts[576][32];
+    uint32_t marks[2][512];
 };
 
 /* The archive takes each table to have this many bytes: where one has not, this
  * does not compile. */
 #define CHEESETRESTLE_TAKES(table, bytes) \
     typedef char cheesetrestle_takes_##table[sizeof ((struct cheesetrestle_tables *)0)->table == (bytes) ? 1 : -1]
-CHEESETRESTLE_TAKES(node_variables, 4096);
+CHEESETRESTLE_TAKES(places, 3072);
 CHEESETRESTLE_TAKES(assumed, 256);
-CHEESETRESTLE_TAKES(asked_nodes, 2048);
-CHEESETRESTLE_TAKES(asked_variables, 256);
-CHEESETRESTLE_TAKES(seen, 2048);
-CHEESETRESTLE_TAKES(done, 256);
-CHEESETRESTLE_TAKES(places, 1024);
-CHEESETRESTLE_TAKES(equation_places, 128);
-CHEESETRESTLE_TAKES(fresh_places, 128);
-CHEESETRESTLE_TAKES(lefts, 1152);
-CHEESETRESTLE_TAKES(rights, 1152);
-CHEESETRESTLE_TAKES(roots, 128);
-CHEESETRESTLE_TAKES(numbers, 576);
-CHEESETRESTLE_TAKES(left_images, 18432);
-CHEESETRESTLE_TAKES(right_images, 18432);
-CHEESETRESTLE_TAKES(order, 64);
-CHEESETRESTLE_TAKES(value_images, 2048);
-CHEESETRESTLE_TAKES(made_by, 64);
-CHEESETRESTLE_TAKES(first_nodes, 16384);
-CHEESETRESTLE_TAKES(first_variables, 2048);
+CHEESETRESTLE_TAKES(node_variables, 4096);
+CHEESETRESTLE_TAKES(heads, 3456);
+CHEESETRESTLE_TAKES(images, 36864);
+CHEESETRESTLE_TAKES(made, 384);
+CHEESETRESTLE_TAKES(values, 2048);
+CHEESETRESTLE_TAKES(asked, 4096);
+CHEESETRESTLE_TAKES(firsts, 18432);
+CHEESETRESTLE_TAKES(marks, 4096);
 #undef CHEESETRESTLE_TAKES
-typedef char cheesetrestle_tables_take[sizeof(struct cheesetrestle_tables) == 70720 ? 1 : -1];
+typedef char cheesetrestle_tables_take[sizeof(struct cheesetrestle_tables) == 76800 ? 1 : -1];
 
 /* What every entry gives back is one word: one of the numbers of
  * cheesetrestle_numbers.h in its high half, a place in its low half. */
@@ -127,19 +109,17 @@ uint64_t cheesetrestle_judge(const uint8_t *input, size_t input_length);
  * functions below take them as one struct. */
 uint64_t cheesetrestle_solve_with(
     const uint8_t *input, size_t input_length, uint8_t *output, size_t output_length,
-    uint16_t *places, uint16_t *equation_places, uint16_t *fresh_places, uint32_t *assumed,
-    uint64_t *node_variables, uint8_t *numbers, uint16_t *lefts, uint16_t *rights,
-    uint8_t *left_images, uint8_t *right_images, uint8_t *order, uint16_t *roots,
-    uint8_t *value_images, uint8_t *made_by, uint32_t *asked_nodes, uint8_t *first_nodes,
-    uint32_t *asked_variables, uint8_t *first_variables, uint32_t *seen, uint32_t *done);
+    uint16_t places[3][512], uint32_t assumed[64], uint64_t node_variables[512],
+    uint16_t heads[576][3], uint8_t images[576][2][32], uint16_t made[3][64],
+    uint8_t values[64][32], uint32_t asked[2][512], uint8_t firsts[576][32],
+    uint32_t marks[2][512]);
 
 uint64_t cheesetrestle_judge_with(
     const uint8_t *input, size_t input_length,
-    uint16_t *places, uint16_t *equation_places, uint16_t *fresh_places, uint32_t *assumed,
-    uint64_t *node_variables, uint8_t *numbers, uint16_t *lefts, uint16_t *rights,
-    uint8_t *left_images, uint8_t *right_images, uint8_t *order, uint16_t *roots,
-    uint8_t *value_images, uint8_t *made_by, uint32_t *asked_nodes, uint8_t *first_nodes,
-    uint32_t *asked_variables, uint8_t *first_variables, uint32_t *seen, uint32_t *done);
+    uint16_t places[3][512], uint32_t assumed[64], uint64_t node_variables[512],
+    uint16_t heads[576][3], uint8_t images[576][2][32], uint16_t made[3][64],
+    uint8_t values[64][32], uint32_t asked[2][512], uint8_t firsts[576][32],
+    uint32_t marks[2][512]);
 
 /* The solver over lent tables: what cheesetrestle_solve gives, without clearing. */
 static inline uint64_t cheesetrestle_solve_lent(
@@ -147,10 +127,8 @@ static inline uint64_t cheesetrestle_solve_lent(
     struct cheesetrestle_tables *t)
 {
     return cheesetrestle_solve_with(
-        input, input_length, output, output_length, t->places, t->equation_places, t->fresh_places,
-        t->assumed, t->node_variables, t->numbers, t->lefts, t->rights, t->left_images,
-        t->right_images, t->order, t->roots, t->value_images, t->made_by, t->asked_nodes,
-        t->first_nodes, t->asked_variables, t->first_variables, t->seen, t->done);
+        input, input_length, output, output_length, t->places, t->assumed, t->node_variables,
+        t->heads, t->images, t->made, t->values, t->asked, t->firsts, t->marks);
 }
 
 /* The judge over lent tables: what cheesetrestle_judge gives, without clearing. */
@@ -158,10 +136,8 @@ static inline uint64_t cheesetrestle_judge_lent(
     const uint8_t *input, size_t input_length, struct cheesetrestle_tables *t)
 {
     return cheesetrestle_judge_with(
-        input, input_length, t->places, t->equation_places, t->fresh_places, t->assumed,
-        t->node_variables, t->numbers, t->lefts, t->rights, t->left_images, t->right_images,
-        t->order, t->roots, t->value_images, t->made_by, t->asked_nodes, t->first_nodes,
-        t->asked_variables, t->first_variables, t->seen, t->done);
+        input, input_length, t->places, t->assumed, t->node_variables, t->heads, t->images,
+        t->made, t->values, t->asked, t->firsts, t->marks);
 }
 
 #ifdef __cplusplus

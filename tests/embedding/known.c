@@ -32,9 +32,7 @@ enum { UNTOUCHED = 0xC3, BEHIND = 64 };
 
 /* The tables in the order in which the archive takes them. */
 #define TABLES(DO) \
-    DO(places) DO(equation_places) DO(fresh_places) DO(assumed) DO(node_variables) DO(numbers) DO(lefts) DO(rights) DO(left_images) \
-    DO(right_images) DO(order) DO(roots) DO(value_images) DO(made_by) DO(asked_nodes) DO(first_nodes) DO(asked_variables) \
-    DO(first_variables) DO(seen) DO(done)
+    DO(places) DO(assumed) DO(node_variables) DO(heads) DO(images) DO(made) DO(values) DO(asked) DO(firsts) DO(marks)
 #define SIZE_OF(table) sizeof(((struct cheesetrestle_tables *)0)->table)
 
 /* Each table by itself, and all as the struct, in one standing. */
@@ -83,9 +81,8 @@ static uint64_t solve(const uint8_t *input, size_t length, uint8_t *output, size
     if (entry == THE_STRUCT)
         return cheesetrestle_solve_lent(input, length, output, room, t->tables);
     return cheesetrestle_solve_with(
-        input, length, output, room, t->places, t->equation_places, t->fresh_places, t->assumed, t->node_variables, t->numbers,
-        t->lefts, t->rights, t->left_images, t->right_images, t->order, t->roots, t->value_images, t->made_by, t->asked_nodes,
-        t->first_nodes, t->asked_variables, t->first_variables, t->seen, t->done);
+        input, length, output, room, t->places, t->assumed, t->node_variables, t->heads, t->images, t->made, t->values, t->asked,
+        t->firsts, t->marks);
 }
 
 static uint64_t judge(const uint8_t *input, size_t length, enum entry entry, enum standing standing)
@@ -97,9 +94,8 @@ static uint64_t judge(const uint8_t *input, size_t length, enum entry entry, enu
     if (entry == THE_STRUCT)
         return cheesetrestle_judge_lent(input, length, t->tables);
     return cheesetrestle_judge_with(
-        input, length, t->places, t->equation_places, t->fresh_places, t->assumed, t->node_variables, t->numbers, t->lefts,
-        t->rights, t->left_images, t->right_images, t->order, t->roots, t->value_images, t->made_by, t->asked_nodes,
-        t->first_nodes, t->asked_variables, t->first_variables, t->seen, t->done);
+        input, length, t->places, t->assumed, t->node_variables, t->heads, t->images, t->made, t->values, t->asked, t->firsts,
+        t->marks);
 }
 
 static const uint8_t *lent_input(const uint8_t *problem, size_t length, enum standing standing)

@@ -7,6 +7,9 @@
 
 A prototype that takes other types than the crate's function makes the printed program fail to compile.
 """
+import functools
+import glob
+import math
 import re
 import sys
 
@@ -27,21 +30,48 @@ def found(pattern, text, what):
     return match
 
 
+@functools.lru_cache(maxsize=None)
+def declared():
+    """The array types that the crates declare, by name, with each constant's value in its place."""
+    types = {}
+    for name in sorted(glob.glob("crates/*/src/**/*.rt", recursive=True)):
+        text = text_of(name)
+        constants = dict(re.findall(r"^(?:pub )?const (\w+): usize = (\d+);", text, re.M))
+        for kind, array in re.findall(r"^pub type (\w+) = (\[.*\]);", text, re.M):
+            array = re.sub(r"\b[A-Z]+\b", lambda word: constants[word.group()], array)
+            if types.setdefault(kind, array) != array:
+                raise SystemExit("signatures.py: %s is declared twice" % kind)
+    return types
+
+
+def laid_out(kind):
+    """A type's element and the lengths of its array, the outermost first; none for a number."""
+    array = re.match(r"^\[(.*); (\d+)\]$", declared().get(kind, kind))
+    if not array:
+        return found(r"^u\d+$", kind, "the element in '%s'" % kind).group(), []
+    element, lengths = laid_out(array.group(1))
+    return element, [int(array.group(2))] + lengths
+
+
 class Parameter:
-    """A parameter of an exported function of the crate: a slice, or a table of `count` elements."""
+    """A parameter of an exported function of the crate: a slice, or a table, which is an array with its lengths."""
 
     def __init__(self, words):
-        match = found(r"^(\w+): &(mut )?\[(u\d+)(?:; (\d+))?\]$", words, "the type in '%s'" % words)
-        self.name, self.lent_for_writing, self.element = match.group(1), bool(match.group(2)), match.group(3)
-        self.count = int(match.group(4)) if match.group(4) else None
+        match = found(r"^(\w+): &(mut )?(?:\[(u\d+)\]|(\w+))$", words, "the type in '%s'" % words)
+        self.name, self.lent_for_writing = match.group(1), bool(match.group(2))
+        self.element, self.lengths = laid_out(match.group(3) or match.group(4))
 
     def size(self):
-        return self.count * WIDTHS[self.element][1]
+        return math.prod(self.lengths) * WIDTHS[self.element][1]
+
+    def brackets(self):
+        return "".join("[%d]" % length for length in self.lengths)
 
     def in_c(self):
-        kind = WIDTHS[self.element][0]
-        pointer = ("" if self.lent_for_writing else "const ") + kind + " *" + self.name
-        return [pointer] if self.count else [pointer, "size_t %s_length" % self.name]
+        kind = ("" if self.lent_for_writing else "const ") + WIDTHS[self.element][0]
+        if self.lengths:
+            return ["%s %s%s" % (kind, self.name, self.brackets())]
+        return ["%s *%s" % (kind, self.name), "size_t %s_length" % self.name]
 
 
 class Entry:
@@ -51,7 +81,7 @@ class Entry:
         self.name = name
         self.result = WIDTHS[match.group(2)][0]
         self.parameters = [Parameter(word) for word in words]
-        self.tables = [p for p in self.parameters if p.count]
+        self.tables = [p for p in self.parameters if p.lengths]
 
     def parameters_in_c(self):
         return [words for p in self.parameters for words in p.in_c()] or ["void"]
@@ -87,17 +117,18 @@ def compare_entries(comparison, header):
         comparison.same("the parameters of " + entry.name, entry.parameters_in_c(), [word.strip() for word in match.group(2).split(",")])
     exported = sorted(re.findall(r'pub extern "C" fn (\w+)', text_of(CRATE)))
     comparison.same("the exports", exported, sorted(entry.name for entry in everything))
-    tables = {entry.name: [(p.name, p.element, p.count) for p in entry.tables] for entry in everything if entry.tables}
+    tables = {entry.name: [(p.name, p.element, p.lengths) for p in entry.tables] for entry in everything if entry.tables}
     comparison.same("the tables of solver and judge", tables["cheesetrestle_solve_with"], tables["cheesetrestle_judge_with"])
     return everything[-2].tables
 
 
 def compare_tables(comparison, header, tables):
     members = found(r"struct cheesetrestle_tables \{(.*?)\};", header, "the struct").group(1)
-    written = {name: (kind, int(count)) for kind, name, count in re.findall(r"(\w+) (\w+)\[(\d+)\];", members)}
+    written = {name: (kind, lengths) for kind, name, lengths in re.findall(r"(\w+) (\w+)((?:\[\d+\])+);", members)}
     asserted = {name: int(size) for name, size in re.findall(r"CHEESETRESTLE_TAKES\((\w+), (\d+)\);", header)}
+    comparison.same("the order of the members", [table.name for table in tables], list(written))
     for table in tables:
-        comparison.same("the member " + table.name, (WIDTHS[table.element][0], table.count), written.pop(table.name, None))
+        comparison.same("the member " + table.name, (WIDTHS[table.element][0], table.brackets()), written.pop(table.name, None))
         comparison.same("the assertion of the size of " + table.name, table.size(), asserted.pop(table.name, None))
     comparison.same("members and assertions of no table", ({}, {}), (written, asserted))
     whole = int(found(r"sizeof\(struct cheesetrestle_tables\) == (\d+)", header, "the struct's assertion").group(1))

@@ -1,3 +1,4 @@
 pub mod Writing
+pub mod Fields
 pub mod Facts
 pub mod Answer

@@ -1,4 +1,4 @@
--- The laws of writing: one byte, one text right after another, and what is left to write in a loop.
+-- The laws of writing: one text right after another, and what is left to write in a loop.
 use Prim.Native.Nat.{ℕ, suc, _+_, _≤_}
 use native.Mathlib.Nat.{add-zero, zero-add}
 use native.Mathlib.Omega.{arith}
@@ -11,13 +11,11 @@ use Rattle.answer.specs.Written.{Wrote}
 sets-append : (s t d : List ℕ) (at : ℕ) → sets d at (s ++ t) ≡ sets (sets d at s) (at + length s) t
 sets-append [] t d at = rw (add-zero at)
 sets-append (b ∷ s) t d at =
-    let e : suc at + length s ≡ at + suc (length s) = omega arith in sets-append s t (set d at b) (suc at) ∙ ap (λ (n : ℕ). sets (sets (set d at b) (suc at) s) n t) e
+    let end : suc at + length s ≡ at + suc (length s) = omega arith in
+    sets-append s t (set d at b) (suc at) ∙ ap (λ (n : ℕ). sets (sets (set d at b) (suc at) s) n t) end
 
 pub wrote-length : {d e s : List ℕ} {at r : ℕ} → Wrote d at s r e → length e ≡ length d
 wrote-length {d} {e} {s} {at} w = ap length (w .holds) ∙ length-sets d at s
-
-pub wrote-byte : (d : List ℕ) (at b : ℕ) → Wrote d at (b ∷ []) (at + 1) (set d at b)
-wrote-byte d at b = record { ends = refl; holds = refl }
 
 pub wrote-same : {d e s t : List ℕ} {at r : ℕ} → s ≡ t → Wrote d at s r e → Wrote d at t r e
 wrote-same p w = rw p at w

@@ -13,5 +13,5 @@ pub record Wrote (d : List ℕ) (at : ℕ) (s : List ℕ) (r : ℕ) (e : List �
   pub holds : e ≡ sets d at s
 
 -- What is given back, with the lent output's final content.
-unfoldable pub resultOf : Given → List ℕ → Result
-resultOf g output = record { number = g .number; place = g .place; output = output }
+unfoldable pub givenBack : Given → List ℕ → Result
+givenBack g output = record { number = g .number; place = g .place; output = output }

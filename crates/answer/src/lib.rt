@@ -2,20 +2,21 @@
 // a byte is written, so that an output that is too short stays as it was.
 
 ghost use mathlib.Core.Path.{_≡_};
-ghost use mathlib.Core.List.{List, [], _∷_, _++_, map};
-ghost use Prim.Native.Nat.{ℕ, _+_, _*_, _≤_, _<_};
+ghost use mathlib.Core.List.{[], _∷_};
+ghost use Prim.Native.Nat.{ℕ, _+_, _≤_, _<_};
 ghost use lib.ListN.{length};
-ghost use Rattle.permutation.specs.Store.{table};
-ghost use Rattle.sets.specs.Bits.{members};
-ghost use Rattle.field.specs.Field.{bytes2, bytes4, fieldBytes};
-ghost use Rattle.bindings.specs.Bindings.{tables, bindingsOf, Keeps};
+ghost use Rattle.field.specs.Field.{bytes2};
+ghost use Rattle.bindings.specs.Bindings.{tables, imagesOf, bindingAt, bindingsOf, Keeps};
+ghost use Rattle.demands.specs.Demands.{onVariables};
 ghost use Rattle.run.specs.Answer.{bindingBytes, factBytes, answerBytes, written};
-ghost use Rattle.answer.specs.Written.{Wrote, resultOf};
-ghost use Rattle.answer.specs.Facts.{factSet, factsIn, Lent};
+ghost use Rattle.answer.specs.Written.{Wrote, givenBack};
+ghost use Rattle.answer.specs.Fields.{stepsField, bindingField, factField};
+ghost use Rattle.answer.specs.Facts.{factSet, factsIn, factBytesOf};
+use bindings::Made;
+use bindings::Values;
+use demands::Asked;
 use names::Atom;
-use names::NodeId;
 use names::Variable;
-use permutation::Permutation;
 use sets::AtomSet;
 use sets::VariableSet;
 
@@ -25,112 +26,120 @@ pub struct Given {
     pub place: usize,
 }
 
-fn put(out: &mut [u8], at: usize, b: u8) -> usize
-    requires { ⌜ at < length (now out) ⌝ }
-    ensures { λ r. ⌜ Wrote (now (out .entry)) at (b ∷ []) r (now (out .exit)) ⌝ }
+// How long the fields of an answer are (specs/Fields.antt): that of the steps, that of a binding before its images, that of a fact.
+const STEPS: usize = 7;
+
+const BINDING: usize = 6;
+
+const FACT: usize = 5;
+
+fn put(output: &mut [u8], at: usize, b: u8) -> usize
+    requires { ⌜ at < length (now output) ⌝ }
+    ensures { λ r. ⌜ Wrote (now (output .entry)) at (b ∷ []) r (now (output .exit)) ⌝ }
 {
-    out[at] = b;
+    output[at] = b;
     at + 1
 }
 
-fn put_two(out: &mut [u8], at: usize, n: u16) -> usize
-    requires { ⌜ at + 2 ≤ length (now out) ⌝ }
-    ensures { λ r. ⌜ Wrote (now (out .entry)) at (bytes2 n) r (now (out .exit)) ⌝ }
+fn put_two(output: &mut [u8], at: usize, n: u16) -> usize
+    requires { ⌜ at + 2 ≤ length (now output) ⌝ }
+    ensures { λ r. ⌜ Wrote (now (output .entry)) at (bytes2 n) r (now (output .exit)) ⌝ }
 {
-    let a = put(out, at, (n / 256) as u8);
-    put(out, a, (n % 256) as u8)
+    let a = put(output, at, (n / 256) as u8);
+    put(output, a, (n % 256) as u8)
 }
 
-fn put_front(out: &mut [u8], at: usize, tag: u8, n: u16) -> usize
-    requires { ⌜ at + 3 ≤ length (now out) ⌝ }
-    ensures { λ r. ⌜ Wrote (now (out .entry)) at (tag ∷ bytes2 n) r (now (out .exit)) ⌝ }
+fn put_front(output: &mut [u8], at: usize, tag: u8, n: u16) -> usize
+    requires { ⌜ at + 3 ≤ length (now output) ⌝ }
+    ensures { λ r. ⌜ Wrote (now (output .entry)) at (tag ∷ bytes2 n) r (now (output .exit)) ⌝ }
 {
-    let a = put(out, at, tag);
-    put_two(out, a, n)
+    let a = put(output, at, tag);
+    put_two(output, a, n)
 }
 
-fn put_steps(out: &mut [u8], at: usize, steps: u32) -> usize
-    requires { ⌜ at + 7 ≤ length (now out) ⌝ }
-    ensures { λ r. ⌜ Wrote (now (out .entry)) at (fieldBytes 0x4E (bytes4 steps)) r (now (out .exit)) ⌝ }
+fn put_steps(output: &mut [u8], at: usize, steps: u32) -> usize
+    requires { ⌜ at + 7 ≤ length (now output) ⌝ }
+    ensures { λ r. ⌜ Wrote (now (output .entry)) at (stepsField steps) r (now (output .exit)) ⌝ }
 {
-    let a = put_front(out, at, 0x4e, 4);
-    let b = put_two(out, a, (steps / 65536) as u16);
-    put_two(out, b, (steps % 65536) as u16)
+    let a = put_front(output, at, 0x4e, 4);
+    let b = put_two(output, a, (steps / 65536) as u16);
+    put_two(output, b, (steps % 65536) as u16)
 }
 
-fn put_images(out: &mut [u8], at: usize, p: Permutation, n: usize) -> usize
-    requires { ⌜ (n ≤ 32) × (at + n ≤ length (now out)) ⌝ }
-    ensures { λ r. ⌜ Wrote (now (out .entry)) at (table n p) r (now (out .exit)) ⌝ }
+// The images of x's value, one at a time: its row is read where it lies.
+fn put_images(output: &mut [u8], at: usize, values: &Values, x: Variable, n: usize) -> usize
+    requires { ⌜ (n ≤ 32) × (x .0 < 64) × (at + n ≤ length (now output)) ⌝ }
+    ensures { λ r. ⌜ Wrote (now (output .entry)) at (imagesOf n (now (values .entry)) (x .0)) r (now (output .exit)) ⌝ }
 {
     let mut end = at;
     let mut i: usize = 0;
     while i < n {
-        let a = permutation::image(p, n, Atom(i as u8));
-        end = put(out, end, a.0);
+        let a = bindings::image_of(values, n, x, Atom(i as u8));
+        end = put(output, end, a.0);
         i += 1;
     }
     end
 }
 
 fn put_binding(
-    out: &mut [u8],
+    output: &mut [u8],
     at: usize,
+    made: &Made,
+    values: &Values,
     x: Variable,
-    node: NodeId,
-    p: Permutation,
     n: usize,
 ) -> usize
-    requires { ⌜ (n ≤ 32) × (at + (6 + n) ≤ length (now out)) ⌝ }
-    ensures { λ r. ⌜ Wrote (now (out .entry)) at (fieldBytes 0x40 (x .0 ∷ bytes2 (node .0) ++ table n p)) r (now (out .exit)) ⌝ }
+    requires { ⌜ (n ≤ 32) × (x .0 < 64) × (at + (6 + n) ≤ length (now output)) ⌝ }
+    ensures { λ r. ⌜ Wrote (now (output .entry)) at (bindingField (bindingAt n (tables (now (made .entry)) (now (values .entry))) (x .0)))
+        r (now (output .exit)) ⌝ }
 {
-    let a = put_front(out, at, 0x40, 3 + n as u16);
-    let b = put(out, a, x.0);
-    let c = put_two(out, b, node.0);
-    put_images(out, c, p, n)
+    let node = bindings::node_of(made, x);
+    let a = put_front(output, at, 0x40, 3 + n as u16);
+    let b = put(output, a, x.0);
+    let c = put_two(output, b, node.0);
+    put_images(output, c, values, x, n)
 }
 
 fn put_bindings(
-    out: &mut [u8],
+    output: &mut [u8],
     at: usize,
-    order: &[u8],
-    roots: &[u16],
-    value_images: &[u8],
+    made: &Made,
+    values: &Values,
     k: usize,
     atoms: usize,
 ) -> usize
-    requires { ⌜ Lent atoms (tables (now order) (now roots) (now «value_images») []) k × (at + length (bindingBytes (bindingsOf atoms (tables (now order) (now roots) (now «value_images») []) k)) ≤ length (now out)) ⌝ }
-    ensures { λ r. ⌜ Wrote (now (out .entry)) at (bindingBytes (bindingsOf atoms (tables (now (order .entry)) (now (roots .entry)) (now («value_images» .entry)) []) k)) r (now (out .exit)) ⌝ }
+    requires { ⌜ ((bound : ℕ) × Keeps (now made) k bound) × (atoms ≤ 32)
+        × (at + length (bindingBytes (bindingsOf atoms (tables (now made) (now values)) k)) ≤ length (now output)) ⌝ }
+    ensures { λ r. ⌜ Wrote (now (output .entry)) at (bindingBytes (bindingsOf atoms (tables (now (made .entry)) (now (values .entry))) k))
+        r (now (output .exit)) ⌝ }
 {
     let mut end = at;
     let mut i: usize = 0;
     while i < k {
-        let x = rows::byte(order, i);
-        let v = x as usize;
-        let p = rows::load(value_images, v, atoms);
-        let node = NodeId(rows::number(roots, v));
-        end = put_binding(out, end, Variable(x), node, p, atoms);
+        let x = bindings::variable_at(made, i);
+        end = put_binding(output, end, made, values, x, atoms);
         i += 1;
     }
     end
 }
 
-fn put_fact(out: &mut [u8], at: usize, a: Atom, x: Variable) -> usize
-    requires { ⌜ at + 5 ≤ length (now out) ⌝ }
-    ensures { λ r. ⌜ Wrote (now (out .entry)) at (fieldBytes 0x41 (a .0 ∷ x .0 ∷ [])) r (now (out .exit)) ⌝ }
+fn put_fact(output: &mut [u8], at: usize, a: Atom, x: Variable) -> usize
+    requires { ⌜ at + 5 ≤ length (now output) ⌝ }
+    ensures { λ r. ⌜ Wrote (now (output .entry)) at (factField (a .0, x .0)) r (now (output .exit)) ⌝ }
 {
-    let b = put_front(out, at, 0x41, 2);
-    let c = put(out, b, a.0);
-    put(out, c, x.0)
+    let b = put_front(output, at, 0x41, 2);
+    let c = put(output, b, a.0);
+    put(output, c, x.0)
 }
 
-fn put_facts_of(out: &mut [u8], at: usize, atoms: AtomSet, x: Variable) -> usize
-    requires { ⌜ at + length (factBytes (map (λ (a : ℕ). (a, x .0)) (members 32 (atoms .0)))) ≤ length (now out) ⌝ }
-    ensures { λ r. ⌜ Wrote (now (out .entry)) at (factBytes (map (λ (a : ℕ). (a, x .0)) (members 32 (atoms .0)))) r (now (out .exit)) ⌝ }
+fn put_facts_of(output: &mut [u8], at: usize, atoms: AtomSet, x: Variable) -> usize
+    requires { ⌜ at + length (factBytesOf (x .0) (atoms .0)) ≤ length (now output) ⌝ }
+    ensures { λ r. ⌜ Wrote (now (output .entry)) at (factBytesOf (x .0) (atoms .0)) r (now (output .exit)) ⌝ }
 {
     let mut end = at;
     let mut rest = atoms;
     while !rest.is_empty() {
-        end = put_fact(out, end, rest.lowest(), x);
+        end = put_fact(output, end, rest.lowest(), x);
         rest = rest.without_lowest();
     }
     end
@@ -148,21 +157,22 @@ fn fact_set(asked: &[u32], bound: VariableSet, x: usize, atoms: usize) -> AtomSe
 }
 
 fn put_facts(
-    out: &mut [u8],
+    output: &mut [u8],
     at: usize,
     asked: &[u32],
     bound: VariableSet,
     atoms: usize,
     variables: usize,
 ) -> usize
-    requires { ⌜ (variables ≤ 64) × (64 ≤ length (now asked)) × (atoms ≤ 32) × (at + length (factBytes (factsIn atoms variables (bound .0) (now asked))) ≤ length (now out)) ⌝ }
-    ensures { λ r. ⌜ Wrote (now (out .entry)) at (factBytes (factsIn atoms variables (bound .0) (now (asked .entry)))) r (now (out .exit)) ⌝ }
+    requires { ⌜ (variables ≤ 64) × (64 ≤ length (now asked)) × (atoms ≤ 32)
+        × (at + length (factBytes (factsIn atoms variables (bound .0) (now asked))) ≤ length (now output)) ⌝ }
+    ensures { λ r. ⌜ Wrote (now (output .entry)) at (factBytes (factsIn atoms variables (bound .0) (now (asked .entry)))) r (now (output .exit)) ⌝ }
 {
     let mut end = at;
     let mut x: usize = 0;
     while x < variables {
         let facts = fact_set(asked, bound, x, atoms);
-        end = put_facts_of(out, end, facts, Variable(x as u8));
+        end = put_facts_of(output, end, facts, Variable(x as u8));
         x += 1;
     }
     end
@@ -182,63 +192,44 @@ fn count_facts(asked: &[u32], bound: VariableSet, atoms: usize, variables: usize
     n
 }
 
-fn write_in(
+// The answer of a run that accepted: `asked` has for each variable the atoms that must be fresh for it once all demands are resolved. 0 with the
+// answer's length; or 13 with the length wanted, and the output stays as it was.
+pub fn write(
+    output: &mut [u8],
+    made: &Made,
+    values: &Values,
+    asked: &Asked,
     steps: u32,
-    order: &[u8],
-    roots: &[u16],
-    value_images: &[u8],
     k: usize,
     bound: VariableSet,
     atoms: usize,
-    asked: &[u32],
     variables: usize,
-    out: &mut [u8],
 ) -> Given
-    requires { ⌜ Lent atoms (tables (now order) (now roots) (now «value_images») []) k × (variables ≤ 64) × (64 ≤ length (now asked)) ⌝ }
-    ensures { λ r. ⌜ resultOf r (now (out .exit)) ≡ written (answerBytes steps (bindingsOf atoms (tables (now (order .entry)) (now (roots .entry)) (now («value_images» .entry)) []) k) (factsIn atoms variables (bound .0) (now (asked .entry)))) (now (out .entry)) ⌝ }
+    requires { ⌜ Keeps (now made) k (bound .0) × (atoms ≤ 32) × (variables ≤ 64) ⌝ }
+    ensures { λ r. ⌜ givenBack r (now (output .exit)) ≡ written
+        (answerBytes steps (bindingsOf atoms (tables (now (made .entry)) (now (values .entry))) k)
+        (factsIn atoms variables (bound .0) (onVariables (now (asked .entry)))))
+        (now (output .entry)) ⌝ }
 {
-    let wanted = 7 + k * (6 + atoms) + 5 * count_facts(asked, bound, atoms, variables);
-    if out.len() < wanted {
+    let facts = count_facts(&asked[demands::VARIABLES], bound, atoms, variables);
+    let wanted = STEPS + k * (BINDING + atoms) + FACT * facts;
+    if output.len() < wanted {
         return Given {
             number: 13,
             place: wanted,
         };
     }
-    let a = put_steps(out, 0, steps);
-    let b = put_bindings(out, a, order, roots, value_images, k, atoms);
+    let a = put_steps(output, 0, steps);
+    let b = put_bindings(output, a, made, values, k, atoms);
     Given {
         number: 0,
-        place: put_facts(out, b, asked, bound, atoms, variables),
+        place: put_facts(
+            output,
+            b,
+            &asked[demands::VARIABLES],
+            bound,
+            atoms,
+            variables,
+        ),
     }
-}
-
-// The answer of a run that accepted: `asked` has for each variable the atoms that must be fresh for it once all demands are resolved. 0 with the
-// answer's length; or 13 with the length wanted, and the output stays as it was.
-pub fn write(
-    steps: u32,
-    order: &[u8; 64],
-    roots: &[u16; 64],
-    value_images: &[u8; 2048],
-    k: usize,
-    bound: VariableSet,
-    atoms: usize,
-    asked: &[u32; 64],
-    variables: usize,
-    out: &mut [u8],
-) -> Given
-    requires { ⌜ Keeps (now order) k (bound .0) × (atoms ≤ 32) × (variables ≤ 64) ⌝ }
-    ensures { λ r. ⌜ ((«made_by» : List ℕ) → resultOf r (now (out .exit)) ≡ written (answerBytes steps (bindingsOf atoms (tables (now (order .entry)) (now (roots .entry)) (now («value_images» .entry)) «made_by») k) (factsIn atoms variables (bound .0) (now (asked .entry)))) (now (out .entry))) ⌝ }
-{
-    write_in(
-        steps,
-        order,
-        roots,
-        value_images,
-        k,
-        bound,
-        atoms,
-        asked,
-        variables,
-        out,
-    )
 }

@@ -1,15 +1,13 @@
--- The demands of the file on top of those that were raised, in the tables of sets. Definitions alone; their laws are in proofs/.
-use Prim.Native.Nat.{ℕ, zero, suc, _<_}
+-- The demands of the file on top of those that were raised, in the table of sets. Definitions alone; their laws are in proofs/.
+use Prim.Native.Nat.{ℕ, zero, suc, _^_, _<_}
 use mathlib.Core.Path.{_≡_}
 use mathlib.Core.Bool.{Bool, false, _&&_, _||_}
 use mathlib.Core.List.{List, [], _∷_}
-use lib.ListN.{length, getD, set}
+use lib.ListN.{getD, set}
 use lib.Dec.{eqb}
 use Rattle.sets.specs.Bits.{member, union, inserted}
 use Rattle.problem.specs.Problem.{Fresh}
-use Rattle.problem.specs.Readable.{Readable}
-use Rattle.problem.specs.Held.{problemOf}
-use Rattle.problem.specs.Look.{FreshnessStands}
+use Rattle.demands.specs.Demands.{onNodes, onVariables}
 
 -- Tag 21, "freshness: atom, node": one atom more for the node, field by field.
 unfoldable pub withAtom : ℕ → ℕ → List ℕ → List ℕ
@@ -29,16 +27,18 @@ unfoldable pub joined : ℕ → List ℕ → List ℕ → List ℕ
 joined zero more sets = sets
 joined (suc n) more sets = set (joined n more sets) n (union (getD sets n 0) (getD more n 0))
 
--- Each freshness field stands where the table says, and its names are there.
-pub record FreshnessHeld (s places : List ℕ) : Type 0 where
-  pub readable : Readable (problemOf s)
-  pub stands : (k : ℕ) → k < length (problemOf s .freshness) → FreshnessStands s places k
+-- What adding does: the table's whole content, who is in it, and that the other column stays.
+pub record FreshnessAdded (ds : List Fresh) (before after : List (List ℕ)) : Type 0 where
+  pub content : after ≡ set before 0 (freshened ds (onNodes before))
+  pub marks : (n a : ℕ) → member (getD (onNodes after) n 0) a ≡ (asksFresh ds a n || member (getD (onNodes before) n 0) a)
+  pub others : onVariables after ≡ onVariables before
 
--- What adding does: the table's whole content, and who is in it.
-pub record FreshnessAdded (ds : List Fresh) (before after : List ℕ) : Type 0 where
-  pub content : after ≡ freshened ds before
-  pub marks : (n a : ℕ) → member (getD after n 0) a ≡ (asksFresh ds a n || member (getD before n 0) a)
+pub record AssumptionsAdded (variables : ℕ) (assumed : List ℕ) (before after : List (List ℕ)) : Type 0 where
+  pub content : after ≡ set before 1 (joined variables assumed (onVariables before))
+  pub marks : (X a : ℕ) → X < variables
+      → member (getD (onVariables after) X 0) a ≡ (member (getD assumed X 0) a || member (getD (onVariables before) X 0) a)
+  pub others : onNodes after ≡ onNodes before
 
-pub record AssumptionsAdded (variables : ℕ) (assumed before after : List ℕ) : Type 0 where
-  pub content : after ≡ joined variables assumed before
-  pub marks : (X a : ℕ) → X < variables → member (getD after X 0) a ≡ (member (getD assumed X 0) a || member (getD before X 0) a)
+-- Every set is one of 32 atoms, as in a table of 32-bit words.
+abbrev pub Words : List ℕ → Type 0
+Words sets = (i : ℕ) → getD sets i 0 < 2 ^ 32

@@ -2,18 +2,37 @@
 // and the number of the equation that made the binding. Tables may hold anything where no variable is bound, so that none is ever cleared: which
 // variables are bound says a set that is passed and returned by value.
 //
-// Images are read and written as whole rows, whatever the number of atoms in use: so no function here takes that number, and each contract is for all.
+// Images are read and written as whole rows, whatever the number of atoms in use. Where one image of a value is wanted, its row is read where it lies.
 
 ghost use mathlib.Core.Path.{_≡_};
 ghost use mathlib.Core.Bool.{false};
-ghost use Prim.Native.Nat.{_<_};
-ghost use lib.ListN.{getD};
+ghost use Prim.Native.Nat.{_≤_, _<_};
+ghost use lib.ListN.{length, set};
+ghost use Rattle.permutation.specs.Table.{image};
 ghost use Rattle.sets.specs.Bits.{member};
-ghost use Rattle.bindings.specs.Bindings.{tables, Keeps, Added, LookedUp, MadeAt};
+ghost use Rattle.bindings.specs.Bindings.{tables, variableAt, nodeOf, imagesOf, Keeps, Added, LookedUp};
+use names::Atom;
 use names::NodeId;
 use names::Variable;
 use permutation::Permutation;
+use rows::Row;
 use sets::VariableSet;
+
+// Three columns: the variables in the order in which they were bound; by variable its value's node; by variable the number of the equation.
+pub type Made = [[u16; 64]; 3];
+
+pub const EMPTY_MADE: Made = [[0; 64]; 3];
+
+const ORDER: usize = 0;
+
+const NODES: usize = 1;
+
+const NUMBERS: usize = 2;
+
+// By variable its value's images.
+pub type Values = [Row; 64];
+
+pub const EMPTY_VALUES: Values = [rows::EMPTY; 64];
 
 // "The binding holds the right side's node and the images acting on it from outside."
 pub struct Value {
@@ -27,50 +46,75 @@ pub struct Found {
     pub value: Value,
 }
 
-// A binding as it was made: its variable, its value and the number of the equation.
-pub struct Made {
-    pub variable: Variable,
-    pub value: Value,
-    pub number: u8,
+// A column and the rows are lent on as slices: so their lengths are known where they are written, which an array does not tell.
+fn put(column: &mut [u16], i: usize, v: u16)
+    requires { ⌜ i < length (now column) ⌝ }
+    ensures { λ _. ⌜ now (column .exit) ≡ set (now (column .entry)) i v ⌝ }
+{
+    column[i] = v;
+}
+
+fn put_row(values: &mut [Row], i: usize, row: Row)
+    requires { ⌜ i < length (now values) ⌝ }
+    ensures { λ _. ⌜ now (values .exit) ≡ set (now (values .entry)) i row ⌝ }
+{
+    values[i] = row;
 }
 
 // One more binding, after the k that were made: of a variable that is not bound. The set of bound variables comes back with it.
 pub fn add(
-    order: &mut [u8; 64],
-    roots: &mut [u16; 64],
-    value_images: &mut [u8; 2048],
-    made_by: &mut [u8; 64],
+    made: &mut Made,
+    values: &mut Values,
     k: usize,
     bound: VariableSet,
     x: Variable,
     value: Value,
     number: u8,
 ) -> VariableSet
-    requires { ⌜ Keeps (now order) k (bound .0) × (member (bound .0) (x .0) ≡ false) × (x .0 < 64) ⌝ }
-    ensures { λ r. ⌜ Added (tables (now (order .entry)) (now (roots .entry)) (now («value_images» .entry)) (now («made_by» .entry))) k (bound .0) (x .0) value number (tables (now (order .exit)) (now (roots .exit)) (now («value_images» .exit)) (now («made_by» .exit))) (r .0) ⌝ }
+    requires { ⌜ Keeps (now made) k (bound .0) × (member (bound .0) (x .0) ≡ false) × (x .0 < 64) ⌝ }
+    ensures { λ r. ⌜ Added (tables (now (made .entry)) (now (values .entry))) k (bound .0) (x .0) value number
+        (tables (now (made .exit)) (now (values .exit))) (r .0) ⌝ }
 {
     let i = x.0 as usize;
-    let images = value.images;
-    rows::set_byte(order, k, x.0);
-    rows::set_number(roots, i, value.node.0);
-    rows::set_byte(made_by, i, number);
-    rows::store(value_images, i, 32, images);
+    let row = rows::keep(value.images);
+    put(&mut made[ORDER], k, x.0 as u16);
+    put(&mut made[NODES], i, value.node.0);
+    put(&mut made[NUMBERS], i, number as u16);
+    put_row(values, i, row);
     bound.with(x)
 }
 
+// The variable that was bound after i others.
+pub fn variable_at(made: &Made, i: usize) -> Variable
+    requires { ⌜ (i < 64) × (variableAt (now made) i < 64) ⌝ }
+    ensures { λ r. ⌜ r .0 ≡ variableAt (now (made .entry)) i ⌝ }
+{
+    Variable(made[ORDER][i] as u8)
+}
+
+// The node of a variable's value.
+pub fn node_of(made: &Made, x: Variable) -> NodeId
+    requires { ⌜ x .0 < 64 ⌝ }
+    ensures { λ r. ⌜ r .0 ≡ nodeOf (now (made .entry)) (x .0) ⌝ }
+{
+    NodeId(made[NODES][x.0 as usize])
+}
+
+// Where a variable's value sends an atom from outside: to itself, if it is none of the n in use. The row is read where it lies.
+pub fn image_of(values: &Values, n: usize, x: Variable, a: Atom) -> Atom
+    requires { ⌜ (n ≤ 32) × (x .0 < 64) ⌝ }
+    ensures { λ r. ⌜ r .0 ≡ image (imagesOf n (now (values .entry)) (x .0)) (a .0) ⌝ }
+{
+    rows::image(&values[x.0 as usize], n, a)
+}
+
 // The value of a variable.
-pub fn look_up(
-    roots: &[u16; 64],
-    value_images: &[u8; 2048],
-    bound: VariableSet,
-    x: Variable,
-) -> Found
-    ensures { λ r. ⌜ LookedUp (now (roots .entry)) (now («value_images» .entry)) (bound .0) (x .0) r ⌝ }
+pub fn look_up(made: &Made, values: &Values, bound: VariableSet, x: Variable) -> Found
+    ensures { λ r. ⌜ LookedUp (tables (now (made .entry)) (now (values .entry))) (bound .0) (x .0) r ⌝ }
 {
     if bound.has(x) {
-        let i = x.0 as usize;
-        let images = rows::load(value_images, i, 32);
-        let node = NodeId(rows::number(roots, i));
+        let images = rows::load(values[x.0 as usize]);
+        let node = node_of(made, x);
         let value = Value {
             images: images,
             node: node,
@@ -88,31 +132,5 @@ pub fn look_up(
     Found {
         bound: false,
         value: value,
-    }
-}
-
-// The binding that was made after i others.
-pub fn made_at(
-    order: &[u8; 64],
-    roots: &[u16; 64],
-    value_images: &[u8; 2048],
-    made_by: &[u8; 64],
-    i: usize,
-) -> Made
-    requires { ⌜ (i < 64) × (getD (now order) i 0 < 64) ⌝ }
-    ensures { λ r. ⌜ MadeAt (tables (now (order .entry)) (now (roots .entry)) (now («value_images» .entry)) (now («made_by» .entry))) i r ⌝ }
-{
-    let x = rows::byte(order, i);
-    let v = x as usize;
-    let images = rows::load(value_images, v, 32);
-    let node = NodeId(rows::number(roots, v));
-    let value = Value {
-        images: images,
-        node: node,
-    };
-    Made {
-        variable: Variable(x),
-        value: value,
-        number: rows::byte(made_by, v),
     }
 }

@@ -14,13 +14,16 @@ use Rattle.nominal.proofs.Solutions.{every-append}
 use Rattle.field.specs.Field.{Bytes}
 use Rattle.problem.specs.Problem.{Equal, Problem}
 use Rattle.problem.specs.Readable.{Readable}
-use Rattle.problem.specs.Reader.{Reading, read, refused, reading, readAll, baseTags}
+use Rattle.problem.specs.Reader.{Reading, read, unreadable, reading, readAll, baseTags}
 use Rattle.problem.proofs.Readable.{readable}
 use Rattle.problem.proofs.Refusals.{one-first, numbers-right}
 use Rattle.run.specs.Meaning.{Side, Binding, Fact, meaning}
 use Rattle.run.specs.Run as run
-use Rattle.run.specs.Run.{Equation, Demand, Ground, Step, refuses, goes-on, step, pending, bindings, demands, next, End, limit, finished, equationsFrom, groundOf, runOf}
-use Rattle.run.specs.Answer.{askedFresh, askedAssumed, askedRaised, resolvedAll, Verdict, accepted, refusal, concluded, verdictOf, verdictRead, answerBytes, Result, written, given, solve, judgedRun, Judgement, assumedFacts, allAmong, holdsFrom, judgementOf, judgementRead, judge}
+use Rattle.run.specs.Run.{Equation, Demand, Ground, Step, refuses, goes-on, step, pending, bindings, demands, next, End, limit, finished}
+use Rattle.run.specs.Run.{equationsFrom, groundOf, runOf}
+use Rattle.run.specs.Answer.{askedFresh, askedAssumed, askedRaised, resolvedAll}
+use Rattle.run.specs.Answer.{Verdict, accepted, refusal, concluded, verdictOf, verdictRead, answerBytes, Result, written, given, solve}
+use Rattle.run.specs.Answer.{judgedRun, Judgement, assumedFacts, allAmong, holdsFrom, judgementOf, judgementRead, judge}
 use Rattle.room.proofs.Answers.{answer-room}
 
 -- ---- the number of an equation
@@ -51,11 +54,18 @@ run-ended g zero [] bs ds h = tt
 run-ended g zero (e ∷ es) bs ds h = h .0
 run-ended g (suc k) [] bs ds h = tt
 run-ended g (suc k) (e ∷ es) bs ds h =
-    next-ended (λ es′ bs′ ds′. run.run g k es′ bs′ ds′) (λ es′ bs′ ds′. run-ended g k es′ bs′ ds′) (e .number) (h .0) es bs ds (h .1) (step g bs (e .left) (e .right))
+    next-ended (λ es′ bs′ ds′. run.run g k es′ bs′ ds′) (λ es′ bs′ ds′. run-ended g k es′ bs′ ds′)
+    (e .number) (h .0) es bs ds (h .1) (step g bs (e .left) (e .right))
 
 start-numbered : (atoms i : ℕ) (es : List Equal) → i + length es ≤ 64 → Every Numbered (equationsFrom atoms i es)
 start-numbered atoms i [] h = tt
 start-numbered atoms i (e ∷ es) h = (omega arith, start-numbered atoms (suc i) es (omega arith))
+
+-- A problem that was read has at most 64 equations: so has every run from its start, whatever is protected.
+started-ended : (p : Problem) → Readable p → (g : Ground) → Ended (run.run g (p .limit) (equationsFrom (p .atoms) 0 (p .equations)) [] [])
+started-ended p r g =
+    run-ended g (p .limit) (equationsFrom (p .atoms) 0 (p .equations)) [] []
+    (start-numbered (p .atoms) 0 (p .equations) (omega (arith, r .few-equations)))
 
 -- ---- the solver
 
@@ -78,7 +88,8 @@ unfolding verdictOf
 verdict-place p (limit m) h n i e = let z : m ≡ i = cc in omega arith
 verdict-place p (run.refused r m) h n i e = let z : m ≡ i = cc in omega arith
 verdict-place p (finished k bs ds) h n i e =
-    concluded-place p k bs (resolvedAll (meaning (p .nodes) bs) (askedFresh (p .nodes) (p .freshness) ++ askedAssumed (p .assumptions) ++ askedRaised (p .nodes) ds)) n i e
+    let asked = askedFresh (p .nodes) (p .freshness) ++ askedAssumed (p .assumptions) ++ askedRaised (p .nodes) ds in
+    concluded-place p k bs (resolvedAll (meaning (p .nodes) bs) asked) n i e
 
 either-result : (b : Bool) (x y : Result) → x .place ≤ 65535 → y .place ≤ 65535 → cond b x y .place ≤ 65535
 either-result true x y h k = h
@@ -94,13 +105,13 @@ given-place (accepted k bs fs) output h =
 given-place (refusal n o) output h = h
 
 -- A refused input is at fault within its bytes; a longer one is refused at 0.
-refused-place : (s : List ℕ) (n o : ℕ) → reading baseTags s ≡ refused n o → o ≤ 65535
+refused-place : (s : List ℕ) (n o : ℕ) → reading baseTags s ≡ unreadable n o → o ≤ 65535
 refused-place s n o e = by-length (leb (length s) 65535) refl
   where
     by-length : (b : Bool) → leb (length s) 65535 ≡ b → o ≤ 65535
     by-length true h = omega (arith, leb-true (length s) 65535 h, numbers-right baseTags s n o e .0)
     by-length false h =
-        let k : reading baseTags s ≡ refused 1 0 = one-first baseTags s (leb-false (length s) 65535 h) in
+        let k : reading baseTags s ≡ unreadable 1 0 = one-first baseTags s (leb-false (length s) 65535 h) in
         let z : o ≡ 0 = cc in
         omega arith
 
@@ -109,8 +120,8 @@ unfolding verdictRead runOf
 read-placed s b (read p) e =
     let r : Readable p = readable baseTags s p b e in
     placed (verdictOf p (runOf p)) (verdictOf p (runOf p)) refl (λ k bs fs q. answer-room p r k bs fs q)
-    (verdict-place p (runOf p) (run-ended (groundOf p) (p .limit) (equationsFrom (p .atoms) 0 (p .equations)) [] [] (start-numbered (p .atoms) 0 (p .equations) (omega (arith, r .few-equations)))))
-read-placed s b (refused n o) e = refused-place s n o e
+    (verdict-place p (runOf p) (started-ended p r (groundOf p)))
+read-placed s b (unreadable n o) e = refused-place s n o e
 
 pub solver-place : (input output : List ℕ) → Bytes input → solve input output .place ≤ 65535
 unfolding solve
@@ -136,9 +147,8 @@ read-judged : (s : List ℕ) → Bytes s → (r : Reading) → reading baseTags 
 unfolding judgementRead judgedRun
 read-judged s b (read p) e =
     let r : Readable p = readable baseTags s p b e in
-    judged-place p (judgedRun p)
-    (run-ended (record { atoms = p .atoms; nodes = p .nodes; protected = λ X. true }) (p .limit) (equationsFrom (p .atoms) 0 (p .equations)) [] [] (start-numbered (p .atoms) 0 (p .equations) (omega (arith, r .few-equations))))
-read-judged s b (refused n o) e = refused-place s n o e
+    judged-place p (judgedRun p) (started-ended p r (record { atoms = p .atoms; nodes = p .nodes; protected = λ X. true }))
+read-judged s b (unreadable n o) e = refused-place s n o e
 
 pub judge-place : (input : List ℕ) → Bytes input → judge input .1 ≤ 65535
 unfolding judge

@@ -4,6 +4,16 @@ ghost use mathlib.Core.Path.{_≡_};
 ghost use Prim.Native.Nat.{_≤_};
 ghost use Rattle.run.specs.Answer as run;
 ghost use Rattle.numbers.specs.Verdicts.{packed};
+use solver::tables::Asked;
+use solver::tables::Assumed;
+use solver::tables::Firsts;
+use solver::tables::Heads;
+use solver::tables::Images;
+use solver::tables::Made;
+use solver::tables::Marks;
+use solver::tables::NodeVariables;
+use solver::tables::Places;
+use solver::tables::Values;
 
 // Number and place in one word.
 fn joined(number: u8, place: usize) -> u64
@@ -27,53 +37,34 @@ pub extern "C" fn cheesetrestle_version() -> u32
 pub extern "C" fn cheesetrestle_solve_with(
     input: &[u8],
     output: &mut [u8],
-    places: &mut [u16; 512],
-    equation_places: &mut [u16; 64],
-    fresh_places: &mut [u16; 64],
-    assumed: &mut [u32; 64],
-    node_variables: &mut [u64; 512],
-    numbers: &mut [u8; 576],
-    lefts: &mut [u16; 576],
-    rights: &mut [u16; 576],
-    left_images: &mut [u8; 18432],
-    right_images: &mut [u8; 18432],
-    order: &mut [u8; 64],
-    roots: &mut [u16; 64],
-    value_images: &mut [u8; 2048],
-    made_by: &mut [u8; 64],
-    asked_nodes: &mut [u32; 512],
-    first_nodes: &mut [u8; 16384],
-    asked_variables: &mut [u32; 64],
-    first_variables: &mut [u8; 2048],
-    seen: &mut [u32; 512],
-    done: &mut [u32; 64],
+    places: &mut Places,
+    assumed: &mut Assumed,
+    node_variables: &mut NodeVariables,
+    heads: &mut Heads,
+    images: &mut Images,
+    made: &mut Made,
+    values: &mut Values,
+    asked: &mut Asked,
+    firsts: &mut Firsts,
+    marks: &mut Marks,
 ) -> u64
-    ensures { λ r. ⌜ r ≡ packed (run.solve (now (input .entry)) (now (output .entry)) .number) (run.solve (now (input .entry)) (now (output .entry)) .place) ⌝ }
+    ensures { λ r. ⌜ r ≡ packed (run.solve (now (input .entry)) (now (output .entry)) .number)
+        (run.solve (now (input .entry)) (now (output .entry)) .place) ⌝ }
     ensures { λ _. ⌜ now (output .exit) ≡ run.solve (now (input .entry)) (now (output .entry)) .output ⌝ }
 {
     let verdict = solver::entries::solve_with(
         input,
         output,
         places,
-        equation_places,
-        fresh_places,
         assumed,
         node_variables,
-        numbers,
-        lefts,
-        rights,
-        left_images,
-        right_images,
-        order,
-        roots,
-        value_images,
-        made_by,
-        asked_nodes,
-        first_nodes,
-        asked_variables,
-        first_variables,
-        seen,
-        done,
+        heads,
+        images,
+        made,
+        values,
+        asked,
+        firsts,
+        marks,
     );
     let given = numbers::of_verdict(verdict);
     joined(given.number, given.place)
@@ -83,51 +74,31 @@ pub extern "C" fn cheesetrestle_solve_with(
 #[no_mangle]
 pub extern "C" fn cheesetrestle_judge_with(
     input: &[u8],
-    places: &mut [u16; 512],
-    equation_places: &mut [u16; 64],
-    fresh_places: &mut [u16; 64],
-    assumed: &mut [u32; 64],
-    node_variables: &mut [u64; 512],
-    numbers: &mut [u8; 576],
-    lefts: &mut [u16; 576],
-    rights: &mut [u16; 576],
-    left_images: &mut [u8; 18432],
-    right_images: &mut [u8; 18432],
-    order: &mut [u8; 64],
-    roots: &mut [u16; 64],
-    value_images: &mut [u8; 2048],
-    made_by: &mut [u8; 64],
-    asked_nodes: &mut [u32; 512],
-    first_nodes: &mut [u8; 16384],
-    asked_variables: &mut [u32; 64],
-    first_variables: &mut [u8; 2048],
-    seen: &mut [u32; 512],
-    done: &mut [u32; 64],
+    places: &mut Places,
+    assumed: &mut Assumed,
+    node_variables: &mut NodeVariables,
+    heads: &mut Heads,
+    images: &mut Images,
+    made: &mut Made,
+    values: &mut Values,
+    asked: &mut Asked,
+    firsts: &mut Firsts,
+    marks: &mut Marks,
 ) -> u64
     ensures { λ r. ⌜ r ≡ packed (run.judge (now (input .entry)) .0) (run.judge (now (input .entry)) .1) ⌝ }
 {
     let judgement = solver::entries::judge_with(
         input,
         places,
-        equation_places,
-        fresh_places,
         assumed,
         node_variables,
-        numbers,
-        lefts,
-        rights,
-        left_images,
-        right_images,
-        order,
-        roots,
-        value_images,
-        made_by,
-        asked_nodes,
-        first_nodes,
-        asked_variables,
-        first_variables,
-        seen,
-        done,
+        heads,
+        images,
+        made,
+        values,
+        asked,
+        firsts,
+        marks,
     );
     let given = numbers::of_judgement(judgement);
     joined(given.number, given.place)
@@ -136,7 +107,8 @@ pub extern "C" fn cheesetrestle_judge_with(
 // The solver, which makes its work tables itself.
 #[no_mangle]
 pub extern "C" fn cheesetrestle_solve(input: &[u8], output: &mut [u8]) -> u64
-    ensures { λ r. ⌜ r ≡ packed (run.solve (now (input .entry)) (now (output .entry)) .number) (run.solve (now (input .entry)) (now (output .entry)) .place) ⌝ }
+    ensures { λ r. ⌜ r ≡ packed (run.solve (now (input .entry)) (now (output .entry)) .number)
+        (run.solve (now (input .entry)) (now (output .entry)) .place) ⌝ }
     ensures { λ _. ⌜ now (output .exit) ≡ run.solve (now (input .entry)) (now (output .entry)) .output ⌝ }
 {
     let verdict = solver::entries::solve(input, output);

@@ -1,53 +1,73 @@
 -- The laws of demands kept as sets: what a place of the tables says after one more mark, and that marking is raising one more demand.
-use Prim.Native.Nat.{ℕ, suc, _+_, _*_, _^_, _≤_, _<_}
+use Prim.Native.Nat.{ℕ, zero, suc, _+_, _^_, _≤_, _<_}
 use native.Mathlib.Omega.{arith}
-use native.Mathlib.Decide.{ℕ-discrete}
 use mathlib.Core.Path.{_≡_, refl, sym, _∙_, ap}
 use mathlib.Core.Logic.{_≢_}
-use mathlib.Core.Bool.{Bool, true, false, _&&_, cond}
+use mathlib.Core.Bool.{Bool, true, false, _&&_, cond, true≢false}
 use mathlib.Core.List.{List, [], _∷_, _++_, map, append-assoc, append-nil, List·Memᴰ, List·Memᴰ·head, List·Memᴰ·tail}
 use mathlib.Core.Option.{Option, none, some}
-use lib.ListN.{length, getD, set, drop, replicate, length-set, length-append, length-replicate, length-drop, getD-replicate, List·getD-append}
-use lib.Seq.{getD-set-same, getD-set-other}
+use lib.ListN.{length, getD, set, drop, replicate, length-set, length-append, length-replicate, length-drop}
+use lib.ListN.{getD-replicate, List·getD-append}
+use lib.Seq.{getD-set-same, getD-set-other, set-getD, set-set}
 use lib.Dec.{eqb}
 use borrow.Author.Tests.{eq-eqb, ne-eqb}
 use Rattle.permutation.specs.Table.{Table, image, inverted, placeFrom, place}
+use Rattle.names.proofs.Equal.{by-eq}
 use Rattle.permutation.proofs.Table.{getD-default, place-first, place-holds, image-inverted-place}
 use Rattle.sets.specs.Bits.{member, inserted, removed, lowest, members}
-use Rattle.sets.proofs.Bits.{by-member, member-empty, member-inserted-same, member-inserted-other, members-empty, members-lowest, in-members-member, member-within}
+use Rattle.sets.proofs.Bits.{by-member, member-empty, member-inserted-same, member-inserted-other}
+use Rattle.sets.proofs.Bits.{members-empty, members-lowest, in-members-member, member-within}
 use Rattle.run.specs.Run.{Subject, of-variable, of-side, Demand, demands}
-use Rattle.demands.specs.Demands.{Sheet, sheet, marks, marked, markedAll, emptied, ofNode, ofVariable, first, Told, Tells, Raised, SideRaised, VariableRaised}
+use Rattle.demands.specs.Demands.{Sheet, sheet, rowOf, atomsAt, firstAt, Line, line, lineAt, withLine, RowThere, lineMarked, lineMarkedAll}
+use Rattle.demands.specs.Demands.{marked, markedAll, emptied, cleared, ofNode, ofVariable, first}
+use Rattle.demands.specs.Demands.{Told, ToldAt, Tells, Raised, SideRaised, VariableRaised}
 
-by-eq : (a b : ℕ) {R : Type 0} → (a ≡ b → R) → (a ≢ b → R) → R
-by-eq a b {R} f g = go (ℕ-discrete a b)
-  where
-    go : Dec (a ≡ b) → R
-    go (yes p) = f p
-    go (no n) = g n
+-- ---- a row in hand and in the tables
+
+module _ (column i : ℕ) (t : Sheet) where
+  -- A row put back as it was changes nothing; of two put in the second stays; what is put in is there.
+  line-back : withLine column i (lineAt column i t) t ≡ t
+  line-back = rw (set-getD (t .asked) column [], set-getD (t .firsts) (rowOf column i) [])
+
+  line-again : (l m : Line) → withLine column i m (withLine column i l t) ≡ withLine column i m t
+  line-again l m =
+      rw (
+        set-set (t .asked) column (l .sets) (m .sets),
+        set-set (t .firsts) (rowOf column i) (l .numbers) (m .numbers),
+      )
+
+  line-there : RowThere column i t → (l : Line) → lineAt column i (withLine column i l t) ≡ l
+  line-there there l =
+      rw (
+        getD-set-same (t .asked) column (l .sets) [] (there .columns),
+        getD-set-same (t .firsts) (rowOf column i) (l .numbers) [] (there .rows),
+      )
 
 -- ---- one mark
 
-pub marked-again : (i k b : ℕ) (s : Sheet) → marks s i b ≡ true → marked i k b s ≡ s
+-- A row with an atom marked that was not.
+abbrev lineNew : ℕ → ℕ → ℕ → Line → Line
+lineNew i k b l = line (set (l .sets) i (inserted 32 (getD (l .sets) i 0) b)) (set (l .numbers) b k)
+
+pub line-marked-again : (i k b : ℕ) (l : Line) → member (getD (l .sets) i 0) b ≡ true → lineMarked i k b l ≡ l
+unfolding lineMarked
+line-marked-again i k b l m = rw m
+
+pub line-marked-new : (i k b : ℕ) (l : Line) → member (getD (l .sets) i 0) b ≡ false → lineMarked i k b l ≡ lineNew i k b l
+unfolding lineMarked
+line-marked-new i k b l m = rw m
+
+-- What holds of the tables where the atom is in the set already, and with it in the set where it was not, holds after the mark.
+by-marked : (column i k b : ℕ) (t : Sheet) (P : Sheet → Type 0) → (member (atomsAt t column i) b ≡ true → P t)
+    → (member (atomsAt t column i) b ≡ false → P (withLine column i (lineNew i k b (lineAt column i t)) t)) → P (marked column i k b t)
 unfolding marked
-marked-again i k b s m = rw m
-
-pub marked-new : (i k b : ℕ) (s : Sheet) → marks s i b ≡ false → marked i k b s ≡ sheet (set (s .sets) i (inserted 32 (getD (s .sets) i 0) b)) (set (s .firsts) (i * 32 + b) k)
-unfolding marked
-marked-new i k b s m = rw m
-
-module _ (i k b : ℕ) (s : Sheet) where
-  pub length-sets-marked : length (marked i k b s .sets) ≡ length (s .sets)
-  length-sets-marked =
-      by-member (getD (s .sets) i 0) b (λ m. rw (marked-again i k b s m))
-      (λ m. rw (marked-new i k b s m) (length-set (s .sets) i (inserted 32 (getD (s .sets) i 0) b)))
-
-  pub length-firsts-marked : length (marked i k b s .firsts) ≡ length (s .firsts)
-  length-firsts-marked =
-      by-member (getD (s .sets) i 0) b (λ m. rw (marked-again i k b s m))
-      (λ m. rw (marked-new i k b s m) (length-set (s .firsts) (i * 32 + b) k))
+by-marked column i k b t P again new =
+    by-member (atomsAt t column i) b
+    (λ m. rw (line-marked-again i k b (lineAt column i t) m, line-back column i t) (again m))
+    (λ m. rw (line-marked-new i k b (lineAt column i t) m) (new m))
 
 -- What a place says with one demand more: the earlier one counts.
-abbrev pub later : Option ℕ → Bool → ℕ → Option ℕ
+abbrev later : Option ℕ → Bool → ℕ → Option ℕ
 later none m k = cond m (some k) none
 later (some e) m k = some e
 
@@ -56,117 +76,180 @@ later-not none k = refl
 later-not (some e) k = refl
 
 told-marked : (o : Option ℕ) (k e : ℕ) → Told o true e → Told (later o true k) true e
-told-marked none k e t = let z : _≡_ {A = Bool} true false = t in absurd (let y : _≡_ {A = ℕ} 0 1 = cc in omega arith)
+told-marked none k e t = absurd (true≢false t)
 told-marked (some d) k e t = t
 
 told-new : (o : Option ℕ) (k e : ℕ) → Told o false e → Told (later o true k) true k
 told-new none k e t = (refl, refl)
-told-new (some d) k e t = let z : _≡_ {A = Bool} false true = t .0 in absurd (let y : _≡_ {A = ℕ} 0 1 = cc in omega arith)
+told-new (some d) k e t = absurd (true≢false (sym (t .0)))
 
-module _ (i k b : ℕ) (s : Sheet) (r : i < length (s .sets)) where
-  other-set : (j c : ℕ) → ((j ≡ i) → c ≢ b) → member (getD (set (s .sets) i (inserted 32 (getD (s .sets) i 0) b)) j 0) c ≡ marks s j c
-  other-set j c d =
+module _ (column i k b : ℕ) (t : Sheet) (there : RowThere column i t) where
+  -- The row and the tables with the atom marked, where it was not.
+  abbrev new : Line
+  new = lineNew i k b (lineAt column i t)
+
+  abbrev after : Sheet
+  after = withLine column i new t
+
+  column-new : getD (after .asked) column [] ≡ new .sets
+  column-new = ap (λ (l : Line). l .sets) (line-there column i t there new)
+
+  row-new : getD (after .firsts) (rowOf column i) [] ≡ new .numbers
+  row-new = ap (λ (l : Line). l .numbers) (line-there column i t there new)
+
+  -- The set and the atom's number.
+  set-new : atomsAt after column i ≡ inserted 32 (atomsAt t column i) b
+  set-new = rw column-new (getD-set-same (getD (t .asked) column []) i (inserted 32 (atomsAt t column i) b) 0 (there .sets))
+
+  number-new : b < 32 → firstAt after column i b ≡ k
+  number-new h = rw row-new (getD-set-same (getD (t .firsts) (rowOf column i) []) b k 0 (omega (arith, there .numbers)))
+
+  -- The other sets, and what else there is of numbers and atoms.
+  set-other : (j : ℕ) → j ≢ i → atomsAt after column j ≡ atomsAt t column j
+  set-other j n = rw column-new (getD-set-other (getD (t .asked) column []) i j (inserted 32 (atomsAt t column i) b) 0 n)
+
+  number-other : (j c : ℕ) → ((j ≡ i) → c ≢ b) → firstAt after column j c ≡ firstAt t column j c
+  number-other j c d =
       by-eq j i
-      (λ p.
-      rw p
-      (ap (λ (w : ℕ). member w c) (getD-set-same (s .sets) i (inserted 32 (getD (s .sets) i 0) b) 0 r)
-      ∙ member-inserted-other 32 (getD (s .sets) i 0) b c (d p)))
-      (λ n. ap (λ (w : ℕ). member w c) (getD-set-other (s .sets) i j (inserted 32 (getD (s .sets) i 0) b) 0 n))
+      (λ p. rw (p, row-new) (getD-set-other (getD (t .firsts) (rowOf column i) []) b c k 0 (d p)))
+      (λ n. let apart : rowOf column j ≢ rowOf column i = λ p. n (omega arith) in
+      ap (λ (l : List ℕ). getD l c 0) (getD-set-other (t .firsts) (rowOf column i) (rowOf column j) (new .numbers) [] apart))
 
-  same-set : b < 32 → member (getD (set (s .sets) i (inserted 32 (getD (s .sets) i 0) b)) i 0) b ≡ true
-  same-set h =
-      ap (λ (w : ℕ). member w b) (getD-set-same (s .sets) i (inserted 32 (getD (s .sets) i 0) b) 0 r)
-      ∙ member-inserted-same 32 (getD (s .sets) i 0) b h
+  member-other : (j c : ℕ) → ((j ≡ i) → c ≢ b) → member (atomsAt after column j) c ≡ member (atomsAt t column j) c
+  member-other j c d =
+      by-eq j i
+      (λ p. rw (p, set-new) (member-inserted-other 32 (atomsAt t column i) b c (d p)))
+      (λ n. rw (set-other j n))
 
-  -- Another place says what it said.
-  marked-other : (j c : ℕ) → b < 32 → c < 32 → ((j ≡ i) → c ≢ b) → (o : Option ℕ)
-      → Told o (marks s j c) (getD (s .firsts) (j * 32 + c) 0) → Told o (marks (marked i k b s) j c) (getD (marked i k b s .firsts) (j * 32 + c) 0)
-  marked-other j c h l d o t =
-      let n : j * 32 + c ≢ i * 32 + b = λ p. d (omega arith) (omega arith) in
-      by-member (getD (s .sets) i 0) b (λ m. rw (marked-again i k b s m) t)
-      (λ m. rw (marked-new i k b s m, other-set j c d, getD-set-other (s .firsts) (i * 32 + b) (j * 32 + c) k 0 n) t)
+  -- The row is there still.
+  there-marked : RowThere column i (marked column i k b t)
+  there-marked =
+      by-marked column i k b t (RowThere column i) (λ m. there)
+      (λ m. record {
+        columns = rw (length-set (t .asked) column (new .sets)) (there .columns);
+        sets = rw (column-new, length-set (getD (t .asked) column []) i (inserted 32 (atomsAt t column i) b)) (there .sets);
+        rows = rw (length-set (t .firsts) (rowOf column i) (new .numbers)) (there .rows);
+        numbers = rw (row-new, length-set (getD (t .firsts) (rowOf column i) []) b k) (there .numbers);
+      })
+
+  -- Another place of the column says what it said.
+  marked-other : (j c : ℕ) → ((j ≡ i) → c ≢ b) → (o : Option ℕ) → ToldAt o column j c t → ToldAt o column j c (marked column i k b t)
+  marked-other j c d o h =
+      by-marked column i k b t (ToldAt o column j c) (λ m. h) (λ m. rw (member-other j c d, number-other j c d) h)
 
   -- The marked place says the equation, unless an earlier one asked.
-  marked-same : b < 32 → i * 32 + b < length (s .firsts) → (o : Option ℕ)
-      → Told o (marks s i b) (getD (s .firsts) (i * 32 + b) 0) → Told (later o true k) (marks (marked i k b s) i b) (getD (marked i k b s .firsts) (i * 32 + b) 0)
-  marked-same h l o t =
-      by-member (getD (s .sets) i 0) b
-      (λ m. rw (marked-again i k b s m, m) (told-marked o k (getD (s .firsts) (i * 32 + b) 0) (rw m at t)))
+  marked-same : b < 32 → (o : Option ℕ) → ToldAt o column i b t → ToldAt (later o true k) column i b (marked column i k b t)
+  marked-same l o h =
+      by-marked column i k b t (ToldAt (later o true k) column i b)
+      (λ m. rw m (told-marked o k (firstAt t column i b) (rw m at h)))
       (λ m.
-      rw (marked-new i k b s m, same-set h, getD-set-same (s .firsts) (i * 32 + b) k 0 l)
-      (told-new o k (getD (s .firsts) (i * 32 + b) 0) (rw m at t)))
+      rw (set-new, member-inserted-same 32 (atomsAt t column i) b l, number-new l)
+      (told-new o k (firstAt t column i b) (rw m at h)))
 
-  pub tells-marked : (f : ℕ → ℕ → Option ℕ) (rows : ℕ) → b < 32 → i < rows → rows ≤ length (s .sets) → rows * 32 ≤ length (s .firsts)
-      → Tells f rows s → Tells (λ j c. later (f j c) (eqb j i && eqb c b) k) rows (marked i k b s)
-  tells-marked f rows h g u v t j c x y =
+  tells-marked : (f : ℕ → ℕ → Option ℕ) (rows : ℕ) → b < 32 → Tells f rows column t
+      → Tells (λ j c. later (f j c) (eqb j i && eqb c b) k) rows column (marked column i k b t)
+  tells-marked f rows l h j c x y =
       by-eq j i
       (λ p. by-eq c b
-      (λ q. rw (p, q, eq-eqb i i refl, eq-eqb b b refl) (marked-same h (omega arith) (f i b) (t i b g h)))
-      (λ n. rw (eq-eqb j i p, ne-eqb c b n, later-not (f j c) k) (marked-other j c h y (λ e. n) (f j c) (t j c x y))))
-      (λ n. rw (ne-eqb j i n, later-not (f j c) k) (marked-other j c h y (λ e. absurd (n e)) (f j c) (t j c x y)))
+      (λ q. rw (p, q, eq-eqb i i refl, eq-eqb b b refl) (marked-same l (f i b) (rw (p, q) at (h j c x y))))
+      (λ n. rw (eq-eqb j i p, ne-eqb c b n, later-not (f j c) k) (marked-other j c (λ e. n) (f j c) (h j c x y))))
+      (λ n. rw (ne-eqb j i n, later-not (f j c) k) (marked-other j c (λ e. absurd (n e)) (f j c) (h j c x y)))
+
+-- The other column says what it said, where its rows are others.
+tells-other : (column i k b : ℕ) (t : Sheet) (f : ℕ → ℕ → Option ℕ) (rows other : ℕ) → other ≢ column
+    → ((j : ℕ) → j < rows → rowOf other j ≢ rowOf column i) → Tells f rows other t → Tells f rows other (marked column i k b t)
+tells-other column i k b t f rows other d apart h j c x y =
+    let new = lineNew i k b (lineAt column i t) in
+    by-marked column i k b t (ToldAt (f j c) other j c) (λ m. h j c x y)
+    (λ m.
+    rw (
+      getD-set-other (t .asked) column other (new .sets) [] d,
+      getD-set-other (t .firsts) (rowOf column i) (rowOf other j) (new .numbers) [] (apart j x),
+    ) (h j c x y))
 
 -- ---- the demands in the order raised
 
-first-append : (f : ℕ → Subject → Bool) (ds : List Demand) (d : Demand) → first f (ds ++ (d ∷ [])) ≡ later (first f ds) (f (d .atom) (d .subject)) (d .equation)
+first-append : (f : ℕ → Subject → Bool) (ds : List Demand) (d : Demand)
+    → first f (ds ++ (d ∷ [])) ≡ later (first f ds) (f (d .atom) (d .subject)) (d .equation)
 first-append f [] d = refl
 first-append f (e ∷ ds) d = go (first-append f ds d) (f (e .atom) (e .subject))
   where
-    go : first f (ds ++ (d ∷ [])) ≡ later (first f ds) (f (d .atom) (d .subject)) (d .equation) → (m : Bool)
-        → cond m (some (e .equation)) (first f (ds ++ (d ∷ []))) ≡ later (cond m (some (e .equation)) (first f ds)) (f (d .atom) (d .subject)) (d .equation)
+    asks : Option ℕ → Option ℕ
+    asks o = later o (f (d .atom) (d .subject)) (d .equation)
+
+    go : first f (ds ++ (d ∷ [])) ≡ asks (first f ds) → (m : Bool)
+        → cond m (some (e .equation)) (first f (ds ++ (d ∷ []))) ≡ asks (cond m (some (e .equation)) (first f ds))
     go r true = refl
     go r false = r
 
-tells-same : (f g : ℕ → ℕ → Option ℕ) (rows : ℕ) (s : Sheet) → ((i b : ℕ) → f i b ≡ g i b) → Tells f rows s → Tells g rows s
-tells-same f g rows s e t i b h k = rw (e i b) at (t i b h k)
+tells-same : (f g : ℕ → ℕ → Option ℕ) (rows column : ℕ) (t : Sheet) → ((i b : ℕ) → f i b ≡ g i b) → Tells f rows column t → Tells g rows column t
+tells-same f g rows column t e h i b x y = rw (e i b) at (h i b x y)
 
-abbrev pub ofSide : ℕ → ℕ → Table → ℕ → Demand
+abbrev ofSide : ℕ → ℕ → Table → ℕ → Demand
 ofSide k a P n = record { equation = k; atom = a; subject = of-side (record { images = P; node = n }) }
 
-abbrev pub forVariable : ℕ → ℕ → ℕ → Demand
+abbrev forVariable : ℕ → ℕ → ℕ → Demand
 forVariable k a X = record { equation = k; atom = a; subject = of-variable X }
 
-module _ (nodes variables : ℕ) (ds : List Demand) (ns vs : Sheet) (r : Raised nodes variables ds ns vs) where
-  pub raised-side : (a : ℕ) (P : Table) (n k : ℕ) → image (inverted P) a < 32 → n < nodes → nodes ≤ length (ns .sets) → nodes * 32 ≤ length (ns .firsts)
-      → Raised nodes variables (ds ++ (ofSide k a P n ∷ [])) (marked n k (image (inverted P) a) ns) vs
-  raised-side a P n k h l u v =
+-- To mark an atom is to raise one more demand: its own column has it, and the other stays.
+module _ (nodes variables : ℕ) (ds : List Demand) (t : Sheet) (r : Raised nodes variables ds t) where
+  raised-side : (a : ℕ) (P : Table) (n k : ℕ) → RowThere 0 n t → image (inverted P) a < 32 → n < 512
+      → Raised nodes variables (ds ++ (ofSide k a P n ∷ [])) (marked 0 n k (image (inverted P) a) t)
+  raised-side a P n k there small h =
+      let b = image (inverted P) a in
+      let d = ofSide k a P n in
+      let after = marked 0 n k b t in
       record {
         ofNodes =
-            tells-same (λ j c. later (first (ofNode j c) ds) (eqb j n && eqb c (image (inverted P) a)) k) (λ j c. first (ofNode j c) (ds ++ (ofSide k a P n ∷ []))) nodes
-            (marked n k (image (inverted P) a) ns)
-            (λ j c. sym (first-append (ofNode j c) ds (ofSide k a P n)))
-            (tells-marked n k (image (inverted P) a) ns (omega arith) (λ j c. first (ofNode j c) ds) nodes h l u v (r .ofNodes));
+            tells-same (λ j c. later (first (ofNode j c) ds) (eqb j n && eqb c b) k) (λ j c. first (ofNode j c) (ds ++ (d ∷ []))) nodes 0 after
+            (λ j c. sym (first-append (ofNode j c) ds d))
+            (tells-marked 0 n k b t there (λ j c. first (ofNode j c) ds) nodes small (r .ofNodes));
         ofVariables =
-            tells-same (λ j c. first (ofVariable j c) ds) (λ j c. first (ofVariable j c) (ds ++ (ofSide k a P n ∷ []))) variables vs
-            (λ j c. sym (first-append (ofVariable j c) ds (ofSide k a P n) ∙ later-not (first (ofVariable j c) ds) k))
-            (r .ofVariables);
+            tells-same (λ j c. first (ofVariable j c) ds) (λ j c. first (ofVariable j c) (ds ++ (d ∷ []))) variables 1 after
+            (λ j c. sym (first-append (ofVariable j c) ds d ∙ later-not (first (ofVariable j c) ds) k))
+            (tells-other 0 n k b t (λ j c. first (ofVariable j c) ds) variables 1 (λ e. omega arith) (λ j x e. omega arith) (r .ofVariables));
       }
 
-  pub raised-variable : (a X k : ℕ) → a < 32 → X < variables → variables ≤ length (vs .sets) → variables * 32 ≤ length (vs .firsts)
-      → Raised nodes variables (ds ++ (forVariable k a X ∷ [])) ns (marked X k a vs)
-  raised-variable a X k h l u v =
+  raised-variable : (a X k : ℕ) → RowThere 1 X t → a < 32 → nodes ≤ 512
+      → Raised nodes variables (ds ++ (forVariable k a X ∷ [])) (marked 1 X k a t)
+  raised-variable a X k there small h =
+      let d = forVariable k a X in
+      let after = marked 1 X k a t in
       record {
         ofNodes =
-            tells-same (λ j c. first (ofNode j c) ds) (λ j c. first (ofNode j c) (ds ++ (forVariable k a X ∷ []))) nodes ns
-            (λ j c. sym (first-append (ofNode j c) ds (forVariable k a X) ∙ later-not (first (ofNode j c) ds) k))
-            (r .ofNodes);
+            tells-same (λ j c. first (ofNode j c) ds) (λ j c. first (ofNode j c) (ds ++ (d ∷ []))) nodes 0 after
+            (λ j c. sym (first-append (ofNode j c) ds d ∙ later-not (first (ofNode j c) ds) k))
+            (tells-other 1 X k a t (λ j c. first (ofNode j c) ds) nodes 0 (λ e. omega arith) (λ j x e. omega arith) (r .ofNodes));
         ofVariables =
-            tells-same (λ j c. later (first (ofVariable j c) ds) (eqb j X && eqb c a) k) (λ j c. first (ofVariable j c) (ds ++ (forVariable k a X ∷ []))) variables
-            (marked X k a vs)
-            (λ j c. sym (first-append (ofVariable j c) ds (forVariable k a X)))
-            (tells-marked X k a vs (omega arith) (λ j c. first (ofVariable j c) ds) variables h l u v (r .ofVariables));
+            tells-same (λ j c. later (first (ofVariable j c) ds) (eqb j X && eqb c a) k) (λ j c. first (ofVariable j c) (ds ++ (d ∷ [])))
+            variables 1 after
+            (λ j c. sym (first-append (ofVariable j c) ds d))
+            (tells-marked 1 X k a t there (λ j c. first (ofVariable j c) ds) variables small (r .ofVariables));
       }
 
--- The atoms of a list, one after another.
-pub raised-variables : (nodes variables : ℕ) (ds : List Demand) (ns vs : Sheet) (X k : ℕ) (l : List ℕ) → ((a : ℕ) → List·Memᴰ a l → a < 32) → X < variables
-    → variables ≤ length (vs .sets) → variables * 32 ≤ length (vs .firsts) → Raised nodes variables ds ns vs
-    → Raised nodes variables (ds ++ demands k (map (λ a. (a, of-variable X)) l)) ns (markedAll X k l vs)
-unfolding markedAll
-raised-variables nodes variables ds ns vs X k [] h x u v r = rw (append-nil ds) r
-raised-variables nodes variables ds ns vs X k (a ∷ l) h x u v r =
-    rw (append-assoc ds (forVariable k a X ∷ []) (demands k (map (λ b. (b, of-variable X)) l))) at
-    (raised-variables nodes variables (ds ++ (forVariable k a X ∷ [])) ns (marked X k a vs) X k l (λ b m. h b (List·Memᴰ·tail m)) x
-    (rw (length-sets-marked X k a vs) u) (rw (length-firsts-marked X k a vs) v)
-    (raised-variable nodes variables ds ns vs r a X k (h a (List·Memᴰ·head refl)) x u v))
+-- Marking the atoms of a list is marking them one after another in the tables.
+markedAll-none : (column i k : ℕ) (t : Sheet) → markedAll column i k [] t ≡ t
+unfolding markedAll lineMarkedAll
+markedAll-none column i k t = line-back column i t
+
+markedAll-more : (column i k b : ℕ) (l : List ℕ) (t : Sheet) → RowThere column i t
+    → markedAll column i k (b ∷ l) t ≡ markedAll column i k l (marked column i k b t)
+unfolding markedAll marked lineMarkedAll
+markedAll-more column i k b l t there =
+    let m = lineMarked i k b (lineAt column i t) in
+    rw (line-there column i t there m, line-again column i t m (lineMarkedAll i k l m))
+
+raised-variables : (nodes variables : ℕ) (ds : List Demand) (t : Sheet) (X k : ℕ) (l : List ℕ) → ((a : ℕ) → List·Memᴰ a l → a < 32)
+    → RowThere 1 X t → nodes ≤ 512 → Raised nodes variables ds t
+    → Raised nodes variables (ds ++ demands k (map (λ a. (a, of-variable X)) l)) (markedAll 1 X k l t)
+raised-variables nodes variables ds t X k [] small there h r = rw (append-nil ds, markedAll-none 1 X k t) r
+raised-variables nodes variables ds t X k (a ∷ l) small there h r =
+    let d = forVariable k a X in
+    let one = raised-variable nodes variables ds t r a X k there (small a (List·Memᴰ·head refl)) h in
+    rw (markedAll-more 1 X k a l t there)
+    (rw (append-assoc ds (d ∷ []) (demands k (map (λ b. (b, of-variable X)) l))) at
+    (raised-variables nodes variables (ds ++ (d ∷ [])) (marked 1 X k a t) X k l (λ b m. small b (List·Memᴰ·tail m))
+    (there-marked 1 X k a t there) h one))
 
 -- ---- at the start
 
@@ -178,15 +261,27 @@ pub length-emptied : (n : ℕ) (l : List ℕ) → n ≤ length l → length (emp
 unfolding emptied
 length-emptied n l h = simp (length-append, length-replicate, length-drop) (omega arith)
 
+-- A column put in, or no such column there: either way its first sets are empty.
+column-emptied : (asked : List (List ℕ)) (column n : ℕ) (l : List ℕ) (i : ℕ) → i < n
+    → getD (getD (set asked column (emptied n l)) column []) i 0 ≡ 0
+column-emptied [] column n l i h = refl
+column-emptied (sets ∷ asked) zero n l i h = emptied-at n i l h
+column-emptied (sets ∷ asked) (suc column) n l i h = column-emptied asked column n l i h
+
 -- Nothing is raised yet, whatever the tables held.
-pub raised-none : (nodes variables : ℕ) (v w f g : List ℕ) → Raised nodes variables [] (sheet (emptied nodes v) f) (sheet (emptied variables w) g)
-raised-none nodes variables v w f g =
+pub raised-none : (nodes variables : ℕ) (asked firsts : List (List ℕ)) → Raised nodes variables [] (sheet (cleared nodes variables asked) firsts)
+unfolding cleared
+raised-none nodes variables asked firsts =
+    let first = set asked 0 (emptied nodes (getD asked 0 [])) in
     record {
-      ofNodes = λ i b h k. rw (emptied-at nodes i v h) (member-empty b);
-      ofVariables = λ i b h k. rw (emptied-at variables i w h) (member-empty b);
+      ofNodes = λ i b h k. rw (
+        getD-set-other first 1 0 (emptied variables (getD asked 1 [])) [] (λ e. omega arith),
+        column-emptied asked 0 nodes (getD asked 0 []) i h,
+      ) (member-empty b);
+      ofVariables = λ i b h k. rw (column-emptied first 1 variables (getD asked 1 []) i h) (member-empty b);
     }
 
--- ---- what the code of the two functions leaves
+-- ---- the atom that the images send to another
 
 placeFrom-lt : (i a : ℕ) (P : Table) → 0 < i + length P → placeFrom i a P < i + length P
 placeFrom-lt i a [] h = h
@@ -214,31 +309,35 @@ placeFrom-none i a d (b ∷ P) n = rw (ne-eqb a b (λ q. n 0 (omega arith) (sym 
 pub no-place : (P : Table) (a : ℕ) → a < length P → ((k : ℕ) → k < length P → image P k ≢ a) → 0 ≡ image (inverted P) a
 no-place P a h n = sym (image-inverted-place P a h ∙ placeFrom-none 0 a a P (λ k l e. n k l (getD-default P k k a l ∙ e)))
 
-pub side-raised : (a : ℕ) (P : Table) (n k : ℕ) (s after : Sheet) → a < length P → length P ≤ 32 → length (s .sets) ≡ 512 → length (s .firsts) ≡ 16384
-    → after ≡ marked n k (image (inverted P) a) s → SideRaised a P n k s after
-side-raised a P n k s after h l u v e =
+-- ---- what the two functions leave
+
+pub side-raised : (a : ℕ) (P : Table) (n k : ℕ) (t after : Sheet) → a < length P → length P ≤ 32 → n < 512 → RowThere 0 n t
+    → after ≡ marked 0 n k (image (inverted P) a) t → SideRaised a P n k t after
+side-raised a P n k t after h l x there e =
     record {
       content = e;
-      raised = λ nodes variables ds vs x y r.
-          rw e (raised-side nodes variables ds s vs r a P n k (let m : image (inverted P) a < length P = inverted-lt P a h in omega arith) x (omega arith) (omega arith));
+      raised = λ nodes variables ds r.
+          let small : image (inverted P) a < 32 = omega (arith, inverted-lt P a h) in
+          rw e (raised-side nodes variables ds t r a P n k there small x);
     }
 
-pub variable-raised : (w X k : ℕ) (s after : Sheet) → w < 2 ^ 32 → length (s .sets) ≡ 64 → length (s .firsts) ≡ 2048 → after ≡ markedAll X k (members 32 w) s
-    → VariableRaised w X k s after
-variable-raised w X k s after h u v e =
+pub variable-raised : (w X k : ℕ) (t after : Sheet) → w < 2 ^ 32 → RowThere 1 X t → after ≡ markedAll 1 X k (members 32 w) t
+    → VariableRaised w X k t after
+variable-raised w X k t after h there e =
     record {
       content = e;
-      raised = λ nodes variables ds ns x y r.
-          rw e
-          (raised-variables nodes variables ds ns s X k (members 32 w) (λ a m. member-within 32 w a h (in-members-member 32 w a m)) x (omega arith) (omega arith) r);
+      raised = λ nodes variables ds x r.
+          let small : (a : ℕ) → List·Memᴰ a (members 32 w) → a < 32 = λ a m. member-within 32 w a h (in-members-member 32 w a m) in
+          rw e (raised-variables nodes variables ds t X k (members 32 w) small there x r);
     }
 
 -- ---- the loop over the atoms of a set
 
-pub markedAll-none : (i k : ℕ) (s : Sheet) → markedAll i k (members 32 0) s ≡ s
-unfolding markedAll
-markedAll-none i k s = rw (members-empty 32)
+pub line-marked-none : (i k : ℕ) (l : Line) → lineMarkedAll i k (members 32 0) l ≡ l
+unfolding lineMarkedAll
+line-marked-none i k l = rw (members-empty 32)
 
-pub markedAll-lowest : (i k w : ℕ) (s : Sheet) → 0 < w → w < 2 ^ 32 → markedAll i k (members 32 w) s ≡ markedAll i k (members 32 (removed w (lowest 32 w))) (marked i k (lowest 32 w) s)
-unfolding markedAll
-markedAll-lowest i k w s p h = rw (members-lowest 32 w p h)
+pub line-marked-lowest : (i k w : ℕ) (l : Line) → 0 < w → w < 2 ^ 32
+    → lineMarkedAll i k (members 32 w) l ≡ lineMarkedAll i k (members 32 (removed w (lowest 32 w))) (lineMarked i k (lowest 32 w) l)
+unfolding lineMarkedAll
+line-marked-lowest i k w l p h = rw (members-lowest 32 w p h)

@@ -5,36 +5,83 @@ use mathlib.Core.Path.{_≡_}
 use mathlib.Core.Bool.{Bool, true, false, _&&_, cond}
 use mathlib.Core.List.{List, [], _∷_, _++_, map}
 use mathlib.Core.Option.{Option, none, some}
-use lib.ListN.{getD, set, drop, replicate}
+use lib.ListN.{length, getD, set, drop, replicate}
 use lib.Dec.{eqb}
 use Rattle.permutation.specs.Table.{Table, image, inverted}
 use Rattle.sets.specs.Bits.{member, inserted, members}
 use Rattle.run.specs.Run.{Subject, of-variable, of-side, Demand, demands}
 
--- Two lent tables: a set of atoms in each row, and numbers of equations, 32 of them to a row.
+-- Two lent tables: the sets of atoms, in one column those of the nodes and in another those of the variables; and numbers of equations, 32 to a row.
 pub record Sheet : Type 0 where
+  pub asked : List (List ℕ)
+  pub firsts : List (List ℕ)
+
+abbrev pub sheet : List (List ℕ) → List (List ℕ) → Sheet
+sheet asked firsts = record { asked = asked; firsts = firsts }
+
+-- The sets by node and by variable.
+abbrev pub onNodes : List (List ℕ) → List ℕ
+onNodes asked = getD asked 0 []
+
+abbrev pub onVariables : List (List ℕ) → List ℕ
+onVariables asked = getD asked 1 []
+
+-- Where the numbers of row i of a column stand: the variables' rows lie behind those of 512 nodes.
+abbrev pub rowOf : ℕ → ℕ → ℕ
+rowOf column i = column * 512 + i
+
+-- The set in row i of a column, and the number that stands for atom b of that set.
+abbrev pub atomsAt : Sheet → ℕ → ℕ → ℕ
+atomsAt t column i = getD (getD (t .asked) column []) i 0
+
+abbrev pub firstAt : Sheet → ℕ → ℕ → ℕ → ℕ
+firstAt t column i b = getD (getD (t .firsts) (rowOf column i) []) b 0
+
+-- What the code has in hand of a row: the sets of its column, and its numbers.
+pub record Line : Type 0 where
   pub sets : List ℕ
-  pub firsts : List ℕ
+  pub numbers : List ℕ
 
-abbrev pub sheet : List ℕ → List ℕ → Sheet
-sheet sets firsts = record { sets = sets; firsts = firsts }
+abbrev pub line : List ℕ → List ℕ → Line
+line sets numbers = record { sets = sets; numbers = numbers }
 
-abbrev pub marks : Sheet → ℕ → ℕ → Bool
-marks s i b = member (getD (s .sets) i 0) b
+abbrev pub lineAt : ℕ → ℕ → Sheet → Line
+lineAt column i t = line (getD (t .asked) column []) (getD (t .firsts) (rowOf column i) [])
+
+abbrev pub withLine : ℕ → ℕ → Line → Sheet → Sheet
+withLine column i l t = sheet (set (t .asked) column (l .sets)) (set (t .firsts) (rowOf column i) (l .numbers))
+
+-- The tables have the row, with a number for each of 32 atoms.
+pub record RowThere (column i : ℕ) (t : Sheet) : Type 0 where
+  pub columns : column < length (t .asked)
+  pub sets : i < length (getD (t .asked) column [])
+  pub rows : rowOf column i < length (t .firsts)
+  pub numbers : length (getD (t .firsts) (rowOf column i) []) ≡ 32
 
 -- Equation number k asks for atom b in row i: only the first time changes anything.
-unfoldable pub marked : ℕ → ℕ → ℕ → Sheet → Sheet
-marked i k b s =
-    cond (member (getD (s .sets) i 0) b) s
-    (record { sets = set (s .sets) i (inserted 32 (getD (s .sets) i 0) b); firsts = set (s .firsts) (i * 32 + b) k })
+unfoldable pub lineMarked : ℕ → ℕ → ℕ → Line → Line
+lineMarked i k b l =
+    let atoms : ℕ = getD (l .sets) i 0 in
+    cond (member atoms b) l (line (set (l .sets) i (inserted 32 atoms b)) (set (l .numbers) b k))
 
-unfoldable pub markedAll : ℕ → ℕ → List ℕ → Sheet → Sheet
-markedAll i k [] s = s
-markedAll i k (b ∷ l) s = markedAll i k l (marked i k b s)
+unfoldable pub lineMarkedAll : ℕ → ℕ → List ℕ → Line → Line
+lineMarkedAll i k [] l = l
+lineMarkedAll i k (b ∷ bs) l = lineMarkedAll i k bs (lineMarked i k b l)
+
+-- The same in the tables.
+unfoldable pub marked : ℕ → ℕ → ℕ → ℕ → Sheet → Sheet
+marked column i k b t = withLine column i (lineMarked i k b (lineAt column i t)) t
+
+unfoldable pub markedAll : ℕ → ℕ → ℕ → List ℕ → Sheet → Sheet
+markedAll column i k bs t = withLine column i (lineMarkedAll i k bs (lineAt column i t)) t
 
 -- The first n sets emptied; the rest may hold anything and stays.
 unfoldable pub emptied : ℕ → List ℕ → List ℕ
 emptied n sets = replicate n 0 ++ drop n sets
+
+-- Nothing is demanded of so many nodes and variables.
+unfoldable pub cleared : ℕ → ℕ → List (List ℕ) → List (List ℕ)
+cleared nodes variables asked = set (set asked 0 (emptied nodes (onNodes asked))) 1 (emptied variables (onVariables asked))
 
 -- Whether a demand asks that atom b is fresh for node n: a is fresh for a side exactly if the atom that the side's images send to a is fresh for its node.
 abbrev pub ofNode : ℕ → ℕ → ℕ → Subject → Bool
@@ -55,22 +102,26 @@ abbrev pub Told : Option ℕ → Bool → ℕ → Type 0
 Told none m k = m ≡ false
 Told (some e) m k = (m ≡ true) × (k ≡ e)
 
-abbrev pub Tells : (ℕ → ℕ → Option ℕ) → ℕ → Sheet → Type 0
-Tells f rows s = (i b : ℕ) → i < rows → b < 32 → Told (f i b) (marks s i b) (getD (s .firsts) (i * 32 + b) 0)
+abbrev pub ToldAt : Option ℕ → ℕ → ℕ → ℕ → Sheet → Type 0
+ToldAt o column i b t = Told o (member (atomsAt t column i) b) (firstAt t column i b)
 
--- The two pairs of tables hold the demands raised so far, for that many nodes and variables.
-pub record Raised (nodes variables : ℕ) (ds : List Demand) (onNodes onVariables : Sheet) : Type 0 where
-  pub ofNodes : Tells (λ n b. first (ofNode n b) ds) nodes onNodes
-  pub ofVariables : Tells (λ X b. first (ofVariable X b) ds) variables onVariables
+-- What the first rows of a column say.
+abbrev pub Tells : (ℕ → ℕ → Option ℕ) → ℕ → ℕ → Sheet → Type 0
+Tells f rows column t = (i b : ℕ) → i < rows → b < 32 → ToldAt (f i b) column i b t
+
+-- The tables hold the demands raised so far, for that many nodes and variables.
+pub record Raised (nodes variables : ℕ) (ds : List Demand) (t : Sheet) : Type 0 where
+  pub ofNodes : Tells (λ n b. first (ofNode n b) ds) nodes 0 t
+  pub ofVariables : Tells (λ X b. first (ofVariable X b) ds) variables 1 t
 
 -- Equation number k demands atom a fresh for the side of node n under the images P: the tables' whole content, and what that is as demands.
 pub record SideRaised (a : ℕ) (P : Table) (n k : ℕ) (before after : Sheet) : Type 0 where
-  pub content : after ≡ marked n k (image (inverted P) a) before
-  pub raised : (nodes variables : ℕ) (ds : List Demand) (onVariables : Sheet) → n < nodes → nodes ≤ 512 → Raised nodes variables ds before onVariables
-      → Raised nodes variables (ds ++ demands k ((a, of-side (record { images = P; node = n })) ∷ [])) after onVariables
+  pub content : after ≡ marked 0 n k (image (inverted P) a) before
+  pub raised : (nodes variables : ℕ) (ds : List Demand) → Raised nodes variables ds before
+      → Raised nodes variables (ds ++ demands k ((a, of-side (record { images = P; node = n })) ∷ [])) after
 
--- Equation number k demands each atom of the set w fresh for the variable X, from the lowest up.
+-- Equation number k demands each atom of the set w fresh for the variable X, from the lowest up. The rows of 512 nodes stay.
 pub record VariableRaised (w X k : ℕ) (before after : Sheet) : Type 0 where
-  pub content : after ≡ markedAll X k (members 32 w) before
-  pub raised : (nodes variables : ℕ) (ds : List Demand) (onNodes : Sheet) → X < variables → variables ≤ 64 → Raised nodes variables ds onNodes before
-      → Raised nodes variables (ds ++ demands k (map (λ a. (a, of-variable X)) (members 32 w))) onNodes after
+  pub content : after ≡ markedAll 1 X k (members 32 w) before
+  pub raised : (nodes variables : ℕ) (ds : List Demand) → nodes ≤ 512 → Raised nodes variables ds before
+      → Raised nodes variables (ds ++ demands k (map (λ a. (a, of-variable X)) (members 32 w))) after

@@ -1,4 +1,4 @@
-pub mod Concluding
-pub mod Resolving
+pub mod Tests
 pub mod Covering
+pub mod Resolving
 pub mod Deciding

@@ -1,144 +1,72 @@
--- What the tables of a finished run give to those who resolve its demands, and what resolving them tells.
-use Prim.Native.Nat.{ℕ, _^_, _<_, _≤_}
+-- Resolving in the tables tells what resolving by the definition does: for whatever the table asks, and so with the assumptions added to it or without.
+use Prim.Native.Nat.{ℕ, _≤_}
 use native.Mathlib.Omega.{arith}
-use mathlib.Core.Path.{_≡_, refl, sym, _∙_, ap, subst}
-use mathlib.Core.Logic.{_↔_}
-use mathlib.Core.Bool.{Bool, true, false, cond}
+use mathlib.Core.Path.{_≡_, subst}
+use mathlib.Core.Bool.{Bool, true, not, _&&_}
 use mathlib.Core.List.{List, _++_}
-use mathlib.Core.Option.{Option, none, some}
-use lib.ListN.{length, getD}
+use lib.ListN.{getD}
 use Rattle.sets.specs.Bits.{member}
-use Rattle.sets.proofs.Bits.{by-member}
 use Rattle.problem.specs.Problem.{Problem}
 use Rattle.problem.specs.Readable.{Readable}
-use Rattle.problem.specs.Held.{assumes}
-use Rattle.problem.specs.Told.{countsOf, allIn}
+use Rattle.problem.specs.Held.{problemOf}
+use Rattle.problem.specs.Opening.{ReadInto}
 use Rattle.problem.specs.declared.Counts.{Counts}
-use Rattle.run.specs.Meaning.{Side, Binding}
-use Rattle.run.specs.Run.{valueOf}
-use Rattle.run.specs.Answer.{Asked, askedFresh, askedAssumed, askedRaised}
-use Rattle.run.proofs.Trees.{Fits}
-use Rattle.bindings.specs.Bindings.{Bindings, tables, bindingAt}
-use Rattle.bindings.proofs.Bindings.{valueOf-set}
-use Rattle.demands.specs.Demands.{sheet}
+use Rattle.problem.proofs.Counted.{all-atoms, all-variables}
+use Rattle.run.specs.Answer.{Asked, askedFresh, askedAssumed, askedRaised, hasFact}
+use Rattle.bindings.specs.Bindings.{Bindings, bindingsOf}
 use Rattle.fresh.specs.Pairs.{Pair, Resolved, Asks}
-use Rattle.fresh.specs.Marks.{Marked, atomOf, valueAt, Bound}
-use Rattle.asked.specs.Added.{FreshnessAdded, AssumptionsAdded}
-use Rattle.asked.proofs.Asks.{Words, raised-asks, raised-small, fresh-small, assumed-small, judge-asks, solver-asks}
-use Rattle.ending.specs.Ended.{Ended, bindingsIn, Outcome}
-use Rattle.ending.proofs.Concluding.{end-state, not-fresh, fresh-facts}
+use Rattle.fresh.specs.Marks.{Marked, valueAt, Bound}
+use Rattle.fresh.proofs.Tables.{bound-values, resolved-tables}
+use Rattle.asked.specs.Added.{AssumptionsAdded}
+use Rattle.asked.proofs.Asks.{assumptions-asks, assumed-small}
+use Rattle.ending.specs.Ended.{Small, MeaningIn, Outcome, Resolves, Ended}
+use Rattle.ending.proofs.Tests.{same-test, and-not}
 
-module _ (p : Problem) (r : Readable p) {order roots images : List ℕ} {count bound : ℕ} {askedNodes askedVariables : List ℕ} {steps : ℕ}
-    (e : Ended p order roots images count bound askedNodes askedVariables steps) where
-  abbrev t : Bindings
-  t = tables order roots images (e .madeBy)
+module _ {p : Problem} {t : Bindings} {count bound : ℕ} (m : MeaningIn p t count bound) where
+  pub bound-in : Bound p bound (t .made) (t .values)
+  bound-in = bound-values p (m .protected) t count bound (m .keeps) (m .meaning)
 
-  -- ---- the bindings
+  -- The marks in the tables are read off as the definition's facts.
+  pub outcome : Readable p → {ds : List Asked} {S : Pair → Type 0} {seen after : List ℕ} {fails : Bool} → Asks (p .nodes) ds S
+      → Resolved (p .nodes) (valueAt (p .atoms) bound (t .made) (t .values)) S (Marked p seen after) (fails ≡ true)
+      → Outcome p (bindingsOf (p .atoms) t count) ds bound after fails
+  outcome r {ds} {S} {seen} {after} {fails} asks res =
+      let (failing, quiet) = resolved-tables p (m .protected) t count bound (m .keeps) (m .meaning) (r .named-nodes) seen after fails res ds asks in
+      record {
+        not-fresh = failing;
+        facts = λ e.
+            let (fs, q, says) = quiet e in (
+              fs,
+              q,
+              λ a X l.
+                  let test = and-not (member bound X) (member (getD after X 0) a) in
+                  same-test (hasFact (a, X) fs) (not (member bound X) && member (getD after X 0) a)
+                  (λ h. let w = says a X .0 h in test .1 (w .0 .1, w .1), λ h. let w = test .0 h in says a X .1 ((l, w .0), w .1)),
+              λ a X h. says a X .0 h .0 .0,
+            );
+      }
 
-  value-set : (X : ℕ) → valueOf (bindingsIn e) X ≡ cond (member bound X) (some (bindingAt (p .atoms) t X .value)) none
-  value-set X = valueOf-set (p .atoms) t count bound (e .keeps) X
+-- ---- the solver adds the assumptions, as many variables as it counts
 
-  pub value-same : (X : ℕ) → valueAt (p .atoms) bound roots images X ≡ valueOf (bindingsIn e) X
-  unfolding bindingAt
-  value-same X = sym (value-set X)
+module _ {s : List ℕ} {places : List (List ℕ)} {assumed : List ℕ} {c : Counts} (read : ReadInto s places assumed c) {t : Bindings} {count bound : ℕ}
+    {asked : List (List ℕ)} {steps : ℕ} (e : Ended (problemOf s) t count bound asked steps) {asked′ : List (List ℕ)}
+    (added : AssumptionsAdded (c .variables) assumed asked asked′) where
+  all-added : AssumptionsAdded (problemOf s .variables) assumed asked asked′
+  all-added = subst (λ (n : ℕ). AssumptionsAdded n assumed asked asked′) (all-variables (problemOf s) (read .counts)) added
 
-  value-bound : (X : ℕ) → member bound X ≡ true → valueOf (bindingsIn e) X ≡ some (bindingAt (p .atoms) t X .value)
-  value-bound X m = value-set X ∙ rw m
+  pub solver-small : Small (problemOf s) asked′
+  solver-small = assumed-small (problemOf s) (read .standing .readable) assumed asked asked′ (read .assumptions) all-added (e .small)
 
-  pub is-bound : (X : ℕ) → (valueOf (bindingsIn e) X ≡ none) ↔ (member bound X ≡ false)
-  is-bound X = (
-    λ q. by-member bound X (λ m. let n = value-bound X m in let z : _≡_ {A = ℕ} 0 1 = cc in absurd (omega arith)) (λ m. m),
-    λ m. value-set X ∙ rw m,
-  )
+  -- "the demands of tags 21 and 22 and those raised are resolved".
+  pub solver-outcome : {after : List ℕ} {fails : Bool} → Resolves (problemOf s) t bound asked′ after fails
+      → Outcome (problemOf s) (bindingsOf (problemOf s .atoms) t count)
+      (askedFresh (problemOf s .nodes) (problemOf s .freshness) ++ (askedAssumed (problemOf s .assumptions) ++ askedRaised (problemOf s .nodes) (e .demands)))
+      bound after fails
+  solver-outcome resolves =
+      resolves count (e .meant) _ (assumptions-asks (problemOf s) (read .standing .readable) assumed asked asked′ (read .assumptions) all-added (e .asks))
 
-  value-fits : (X : ℕ) → member bound X ≡ true → Fits (p .atoms) (p .nodes) (bindingAt (p .atoms) t X .value)
-  value-fits X m = end-state p r (e .protected) (e .ran) .meant .fits X (bindingAt (p .atoms) t X .value) (value-bound X m)
+pub few-variables : {s : List ℕ} {places : List (List ℕ)} {assumed : List ℕ} {c : Counts} → ReadInto s places assumed c → c .variables ≤ 64
+few-variables read = omega (arith, all-variables _ (read .counts), read .standing .readable .few-variables)
 
-  pub bound-values : Bound p bound roots images
-  unfolding bindingAt
-  bound-values = record {
-    few = λ X m. end-state p r (e .protected) (e .ran) .meant .few X (bindingAt (p .atoms) t X .value) (value-bound X m);
-    root = λ X m. value-fits X m .there;
-    long = λ X m. value-fits X m .images .long;
-    permutes = λ X m. value-fits X m .images .permutes;
-  }
-
-  -- ---- the demands
-
-  module _ (narrow-nodes : Words askedNodes) (narrow-variables : Words askedVariables) where
-    raised : Asks (p .nodes) (askedRaised (p .nodes) (e .demands)) (Marked p askedNodes askedVariables)
-    raised =
-        raised-asks p r (e .protected) (e .demands) (end-state p r (e .protected) (e .ran) .raised) (sheet askedNodes (e .firstNodes)) (sheet askedVariables (e .firstVariables)) (e .raised)
-        narrow-nodes narrow-variables
-
-    small : (w : Pair) → Marked p askedNodes askedVariables w → atomOf w < p .atoms
-    small =
-        raised-small p r (e .protected) (e .demands) (end-state p r (e .protected) (e .ran) .raised) (sheet askedNodes (e .firstNodes)) (sheet askedVariables (e .firstVariables)) (e .raised)
-        narrow-nodes narrow-variables
-
-    outcome : (asked : List Asked) (nodes variables seen after : List ℕ) (fails : Bool) → Asks (p .nodes) asked (Marked p nodes variables)
-        → Resolved (p .nodes) (valueAt (p .atoms) bound roots images) (Marked p nodes variables) (Marked p seen after) (fails ≡ true) → Outcome p (bindingsIn e) asked bound after fails
-    outcome asked nodes variables seen after fails asks res = record {
-      not-fresh = not-fresh p r (e .protected) (e .ran) bound is-bound (valueAt (p .atoms) bound roots images) value-same asked asks seen after fails res;
-      facts = fresh-facts p r (e .protected) (e .ran) bound is-bound (valueAt (p .atoms) bound roots images) value-same asked asks seen after fails res;
-    }
-
-    module _ (nodes : List ℕ) (f : FreshnessAdded (p .freshness) askedNodes nodes) where
-      -- The judge.
-      pub judge-small : (w : Pair) → Marked p nodes askedVariables w → atomOf w < p .atoms
-      judge-small = fresh-small p r askedNodes nodes askedVariables f small
-
-      pub judge-outcome : (seen after : List ℕ) (fails : Bool)
-          → Resolved (p .nodes) (valueAt (p .atoms) bound roots images) (Marked p nodes askedVariables) (Marked p seen after) (fails ≡ true)
-          → Outcome p (bindingsIn e) (askedFresh (p .nodes) (p .freshness) ++ askedRaised (p .nodes) (e .demands)) bound after fails
-      judge-outcome seen after fails res =
-          outcome (askedFresh (p .nodes) (p .freshness) ++ askedRaised (p .nodes) (e .demands)) nodes askedVariables seen after fails
-          (judge-asks p r (askedRaised (p .nodes) (e .demands)) askedNodes nodes askedVariables raised f) res
-
-      -- The solver.
-      module _ (assumed variables : List ℕ) (held : (a X : ℕ) → X < p .variables → member (getD assumed X 0) a ≡ assumes (p .assumptions) a X)
-          (g : AssumptionsAdded (p .variables) assumed askedVariables variables) where
-        pub solver-small : (w : Pair) → Marked p nodes variables w → atomOf w < p .atoms
-        solver-small = assumed-small p r nodes askedVariables variables assumed held g judge-small
-
-        pub solver-outcome : (seen after : List ℕ) (fails : Bool)
-            → Resolved (p .nodes) (valueAt (p .atoms) bound roots images) (Marked p nodes variables) (Marked p seen after) (fails ≡ true)
-            → Outcome p (bindingsIn e) (askedFresh (p .nodes) (p .freshness) ++ askedAssumed (p .assumptions) ++ askedRaised (p .nodes) (e .demands)) bound after fails
-        solver-outcome seen after fails res =
-            outcome (askedFresh (p .nodes) (p .freshness) ++ askedAssumed (p .assumptions) ++ askedRaised (p .nodes) (e .demands)) nodes variables seen after fails
-            (solver-asks p r (askedRaised (p .nodes) (e .demands)) askedNodes nodes askedVariables variables assumed held raised f g) res
-
--- ---- the problem's numbers
-
-module _ (c : Counts) (p : Problem) (e : c ≡ countsOf p) where
-  pub all-atoms : c .atoms ≡ p .atoms
-  unfolding countsOf
-  all-atoms = ap (λ (x : Counts). x .atoms) e
-
-  pub all-variables : c .variables ≡ p .variables
-  unfolding countsOf
-  all-variables = ap (λ (x : Counts). x .variables) e
-
-  pub all-nodes : c .nodes ≡ length (p .nodes)
-  unfolding countsOf
-  all-nodes = ap (λ (x : Counts). x .nodes) e
-
-  pub all-equations : c .equations ≡ length (p .equations)
-  unfolding countsOf
-  all-equations = ap (λ (x : Counts). x .equations) e
-
-  pub all-freshness : c .freshness ≡ length (p .freshness)
-  unfolding countsOf
-  all-freshness = ap (λ (x : Counts). x .freshness) e
-
-  pub whole-limit : c .limit ≡ p .limit
-  unfolding countsOf
-  whole-limit = ap (λ (x : Counts). x .limit) e
-
-  pub all-protected-variables : c .protected .0 ≡ allIn 0 (p .protected)
-  unfolding countsOf
-  all-protected-variables = ap (λ (x : Counts). x .protected .0) e
-
--- The code adds the assumptions of as many variables as it counts, which are the problem's.
-pub assumed-all : {n m : ℕ} {assumed before after : List ℕ} → n ≡ m → AssumptionsAdded n assumed before after → AssumptionsAdded m assumed before after
-assumed-all {assumed = assumed} {before = before} {after = after} e h = subst (λ (k : ℕ). AssumptionsAdded k assumed before after) e h
+pub few-atoms : {s : List ℕ} {places : List (List ℕ)} {assumed : List ℕ} {c : Counts} → ReadInto s places assumed c → c .atoms ≤ 32
+few-atoms read = omega (arith, all-atoms _ (read .counts), read .standing .readable .few-atoms)

@@ -6,11 +6,14 @@ use lib.ListN.{getD}
 use lib.Dec.{eqb}
 use Rattle.sets.specs.Bits.{member, difference}
 
--- "a resulting fact that isn't assumed": whether there is none, for n variables from X on. Facts are pairs of atom and unbound variable.
+-- Facts are pairs of atom and unbound variable: whether the variable X has none that isn't assumed.
+unfoldable pub coveredAt : ℕ → List ℕ → List ℕ → ℕ → Bool
+coveredAt bound asked assumed X = member bound X || eqb (difference (getD asked X 0) (getD assumed X 0)) 0
+
+-- "a resulting fact that isn't assumed": whether there is none, for n variables from X on.
 unfoldable pub coveredFrom : ℕ → List ℕ → List ℕ → ℕ → ℕ → Bool
 coveredFrom bound asked assumed X zero = true
-coveredFrom bound asked assumed X (suc n) =
-    cond (member bound X || eqb (difference (getD asked X 0) (getD assumed X 0)) 0) (coveredFrom bound asked assumed (suc X) n) false
+coveredFrom bound asked assumed X (suc n) = cond (coveredAt bound asked assumed X) (coveredFrom bound asked assumed (suc X) n) false
 
 unfoldable pub covered : ℕ → ℕ → List ℕ → List ℕ → Bool
 covered variables bound asked assumed = coveredFrom bound asked assumed 0 variables

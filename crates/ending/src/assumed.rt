@@ -1,35 +1,31 @@
 // The judge's last question: whether all that is asked of variables is assumed.
 ghost use mathlib.Core.Path.{_≡_};
-ghost use mathlib.Core.Bool.{_||_};
 ghost use Prim.Native.Nat.{_≤_, _<_};
-ghost use lib.ListN.{getD};
-ghost use lib.Dec.{eqb};
-ghost use Rattle.sets.specs.Bits.{member, difference};
-ghost use Rattle.ending.specs.Covered.{covered};
+ghost use Rattle.demands.specs.Demands.{onVariables};
+ghost use Rattle.ending.specs.Covered.{coveredAt, covered};
+use demands::Asked;
 use names::Variable;
+use problem::Assumed;
 use sets::AtomSet;
 use sets::VariableSet;
 
-fn covers(bound: VariableSet, asked: &[u32; 64], assumed: &[u32; 64], x: usize) -> bool
+fn covers(bound: VariableSet, asked: &Asked, assumed: &Assumed, x: usize) -> bool
     requires { ⌜ x < 64 ⌝ }
-    ensures { λ r. ⌜ r ≡ (member (bound .0) x || eqb (difference (getD (now (asked .entry)) x 0) (getD (now (assumed .entry)) x 0)) 0) ⌝ }
+    ensures { λ r. ⌜ r ≡ coveredAt (bound .0) (onVariables (now (asked .entry))) (now (assumed .entry)) x ⌝ }
 {
-    if bound.has(Variable(x as u8)) {
+    let variable = x as u8;
+    if bound.has(Variable(variable)) {
         return true;
     }
-    let more = AtomSet(asked[x]).minus(AtomSet(assumed[x]));
-    more.is_empty()
+    let facts = asked[demands::VARIABLES][x];
+    let given = assumed[x];
+    AtomSet(facts).minus(AtomSet(given)).is_empty()
 }
 
 // Whether every fact is assumed: an atom that is asked of an unbound variable.
-pub fn all_assumed(
-    bound: VariableSet,
-    asked: &[u32; 64],
-    assumed: &[u32; 64],
-    variables: usize,
-) -> bool
+pub fn all_assumed(bound: VariableSet, asked: &Asked, assumed: &Assumed, variables: usize) -> bool
     requires { ⌜ variables ≤ 64 ⌝ }
-    ensures { λ r. ⌜ r ≡ covered variables (bound .0) (now (asked .entry)) (now (assumed .entry)) ⌝ }
+    ensures { λ r. ⌜ r ≡ covered variables (bound .0) (onVariables (now (asked .entry))) (now (assumed .entry)) ⌝ }
 {
     let mut x: usize = 0;
     while x < variables {

@@ -1,88 +1,58 @@
 // What comes after the last equation: all demands are resolved under the bindings, and the answer is written or the judgement given.
 pub mod assumed; // assumed.rt: what the judge asks in the end
-pub mod words; // words.rt: that rows are words
+pub mod words; // words.rt: that the sets are words
 
+ghost use mathlib.Core.Path.{_≡_};
 ghost use Rattle.problem.specs.Held.{problemOf};
-ghost use Rattle.ending.specs.Ended.{Ready, Ended, SomeEnded, solverDemands, judgeDemands, Resolves, Concludes, Judges};
+ghost use Rattle.problem.specs.Look.{Standing};
+ghost use Rattle.problem.specs.Told.{countsOf};
+ghost use Rattle.problem.specs.Opening.{ReadInto};
+ghost use Rattle.bindings.specs.Bindings.{tables};
+ghost use Rattle.demands.specs.Demands.{onVariables};
+ghost use Rattle.fresh.specs.Marks.{Bound};
+ghost use Rattle.ending.specs.Ended.{Small, Resolves, Ended, SomeEnded, Concludes, Judges};
 use crate::assumed::all_assumed;
 use crate::words::words;
+use bindings::Made;
+use bindings::Values;
+use demands::Asked;
+use fresh::Marks;
 use numbers::Judgement;
 use numbers::Verdict;
+use problem::Assumed;
 use problem::Counts;
+use problem::Places;
 use sets::VariableSet;
 
-// The solver's demands. Answers whether they fail; the atoms asked of each variable are left in the table.
-fn resolve_solved(
+// The demands in the tables and those of the file's freshness fields. Answers whether they fail; the atoms asked of each variable are left in the table.
+fn resolve(
     s: &[u8],
     c: Counts,
-    places: &[u16; 512],
-    fresh_places: &[u16; 64],
-    assumed: &[u32; 64],
-    roots: &[u16; 64],
-    value_images: &[u8; 2048],
+    places: &Places,
+    made: &Made,
+    values: &Values,
+    asked: &mut Asked,
+    marks: &mut Marks,
     bound: VariableSet,
-    asked_nodes: &mut [u32; 512],
-    asked_variables: &mut [u32; 64],
-    seen: &mut [u32; 512],
-    done: &mut [u32; 64],
 ) -> bool
-    requires { ⌜ Ready (now s) (now places) (now «fresh_places») (now assumed) c × SomeEnded (problemOf (now s)) (now roots) (now «value_images») (bound .0) (now «asked_nodes») (now «asked_variables») ⌝ }
-    ensures { λ r. ⌜ Resolves (problemOf (now (s .entry))) (solverDemands (problemOf (now (s .entry)))) (now (roots .entry)) (now («value_images» .entry)) (bound .0) (now («asked_nodes» .entry)) (now («asked_variables» .entry)) (now («asked_variables» .exit)) r ⌝ }
+    requires read { ⌜ Standing (now s) (now places) × (c ≡ countsOf (problemOf (now s))) ⌝ }
+    requires bound { ⌜ Bound (problemOf (now s)) (bound .0) (now made) (now values) ⌝ }
+    requires small { ⌜ Small (problemOf (now s)) (now asked) ⌝ }
+    ensures { λ r. ⌜ Resolves (problemOf (now (s .entry))) (tables (now (made .entry)) (now (values .entry))) (bound .0)
+        (now (asked .entry)) (onVariables (now (asked .exit))) r ⌝ }
 {
-    words(asked_nodes);
-    words(asked_variables);
-    asked::add_freshness(s, fresh_places, c.freshness as usize, asked_nodes);
-    asked::add_assumptions(assumed, c.variables as usize, asked_variables);
+    asked::add_freshness(s, places, asked, c.freshness as usize);
     fresh::resolve(
         s,
         places,
+        bound,
+        made,
+        values,
+        asked,
+        marks,
         c.nodes as usize,
         c.atoms as usize,
         c.variables as usize,
-        bound,
-        roots,
-        value_images,
-        asked_nodes,
-        asked_variables,
-        seen,
-        done,
-    )
-}
-
-// The judge's: "without the assumption demands".
-fn resolve_judged(
-    s: &[u8],
-    c: Counts,
-    places: &[u16; 512],
-    fresh_places: &[u16; 64],
-    assumed: &[u32; 64],
-    roots: &[u16; 64],
-    value_images: &[u8; 2048],
-    bound: VariableSet,
-    asked_nodes: &mut [u32; 512],
-    asked_variables: &mut [u32; 64],
-    seen: &mut [u32; 512],
-    done: &mut [u32; 64],
-) -> bool
-    requires { ⌜ Ready (now s) (now places) (now «fresh_places») (now assumed) c × SomeEnded (problemOf (now s)) (now roots) (now «value_images») (bound .0) (now «asked_nodes») (now «asked_variables») ⌝ }
-    ensures { λ r. ⌜ Resolves (problemOf (now (s .entry))) (judgeDemands (problemOf (now (s .entry)))) (now (roots .entry)) (now («value_images» .entry)) (bound .0) (now («asked_nodes» .entry)) (now («asked_variables» .entry)) (now («asked_variables» .exit)) r ⌝ }
-{
-    words(asked_nodes);
-    words(asked_variables);
-    asked::add_freshness(s, fresh_places, c.freshness as usize, asked_nodes);
-    fresh::resolve(
-        s,
-        places,
-        c.nodes as usize,
-        c.atoms as usize,
-        c.variables as usize,
-        bound,
-        roots,
-        value_images,
-        asked_nodes,
-        asked_variables,
-        seen,
-        done,
     )
 }
 
@@ -90,52 +60,37 @@ fn resolve_judged(
 pub fn conclude(
     s: &[u8],
     c: Counts,
-    places: &[u16; 512],
-    fresh_places: &[u16; 64],
-    assumed: &[u32; 64],
-    order: &[u8; 64],
-    roots: &[u16; 64],
-    value_images: &[u8; 2048],
-    count: usize,
-    bound: VariableSet,
-    asked_nodes: &mut [u32; 512],
-    asked_variables: &mut [u32; 64],
-    seen: &mut [u32; 512],
-    done: &mut [u32; 64],
-    steps: u32,
     output: &mut [u8],
+    places: &Places,
+    assumed: &Assumed,
+    made: &Made,
+    values: &Values,
+    asked: &mut Asked,
+    marks: &mut Marks,
+    bound: VariableSet,
+    count: usize,
+    steps: u32,
 ) -> Verdict
-    requires { ⌜ Ready (now s) (now places) (now «fresh_places») (now assumed) c × Ended (problemOf (now s)) (now order) (now roots) (now «value_images») count (bound .0) (now «asked_nodes») (now «asked_variables») steps ⌝ }
-    ensures { λ r. ⌜ Concludes (problemOf (now (s .entry))) (now (order .entry)) (now (roots .entry)) (now («value_images» .entry)) count (bound .0) (now («asked_nodes» .entry)) (now («asked_variables» .entry)) steps r (now (output .entry)) (now (output .exit)) ⌝ }
+    requires read { ⌜ ReadInto (now s) (now places) (now assumed) c ⌝ }
+    requires ended { ⌜ Ended (problemOf (now s)) (tables (now made) (now values)) count (bound .0) (now asked) steps ⌝ }
+    ensures { λ r. ⌜ Concludes (problemOf (now (s .entry))) (tables (now (made .entry)) (now (values .entry))) count (bound .0)
+        (now (asked .entry)) steps r (now (output .entry)) (now (output .exit)) ⌝ }
 {
-    let fails = resolve_solved(
-        s,
-        c,
-        places,
-        fresh_places,
-        assumed,
-        roots,
-        value_images,
-        bound,
-        asked_nodes,
-        asked_variables,
-        seen,
-        done,
-    );
-    if fails {
+    let variables = c.variables as usize;
+    asked::add_assumptions(assumed, asked, variables);
+    if resolve(s, c, places, made, values, asked, marks, bound) {
         return Verdict::NotFresh;
     }
     let g = answer::write(
+        output,
+        made,
+        values,
+        asked,
         steps,
-        order,
-        roots,
-        value_images,
         count,
         bound,
         c.atoms as usize,
-        asked_variables,
-        c.variables as usize,
-        output,
+        variables,
     );
     if g.number == 0 {
         return Verdict::Accepted(g.place);
@@ -143,43 +98,27 @@ pub fn conclude(
     Verdict::TooShort(g.place)
 }
 
-// The judgement, for a run that is finished.
+// The judgement, for a run that is finished: "without the assumption demands".
 pub fn judged(
     s: &[u8],
     c: Counts,
-    places: &[u16; 512],
-    fresh_places: &[u16; 64],
-    assumed: &[u32; 64],
-    roots: &[u16; 64],
-    value_images: &[u8; 2048],
+    places: &Places,
+    assumed: &Assumed,
+    made: &Made,
+    values: &Values,
+    asked: &mut Asked,
+    marks: &mut Marks,
     bound: VariableSet,
-    asked_nodes: &mut [u32; 512],
-    asked_variables: &mut [u32; 64],
-    seen: &mut [u32; 512],
-    done: &mut [u32; 64],
 ) -> Judgement
-    requires { ⌜ Ready (now s) (now places) (now «fresh_places») (now assumed) c × SomeEnded (problemOf (now s)) (now roots) (now «value_images») (bound .0) (now «asked_nodes») (now «asked_variables») ⌝ }
-    ensures { λ r. ⌜ Judges (problemOf (now (s .entry))) (now (roots .entry)) (now («value_images» .entry)) (bound .0) (now («asked_nodes» .entry)) (now («asked_variables» .entry)) r ⌝ }
+    requires read { ⌜ ReadInto (now s) (now places) (now assumed) c ⌝ }
+    requires ended { ⌜ SomeEnded (problemOf (now s)) (tables (now made) (now values)) (bound .0) (now asked) ⌝ }
+    ensures { λ r. ⌜ Judges (problemOf (now (s .entry))) (tables (now (made .entry)) (now (values .entry))) (bound .0) (now (asked .entry)) r ⌝ }
 {
-    let fails = resolve_judged(
-        s,
-        c,
-        places,
-        fresh_places,
-        assumed,
-        roots,
-        value_images,
-        bound,
-        asked_nodes,
-        asked_variables,
-        seen,
-        done,
-    );
-    if fails {
+    if resolve(s, c, places, made, values, asked, marks, bound) {
         return Judgement::DoesNotHold;
     }
-    words(asked_variables);
-    if all_assumed(bound, asked_variables, assumed, c.variables as usize) {
+    words(asked);
+    if all_assumed(bound, asked, assumed, c.variables as usize) {
         return Judgement::Holds;
     }
     Judgement::DoesNotHold

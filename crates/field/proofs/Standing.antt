@@ -1,16 +1,16 @@
 -- Where a whole field stands in the bytes that it was found in.
-use Prim.Native.Nat.{ℕ, suc, _+_, _*_, _-_, _≤_, _<_}
+use Prim.Native.Nat.{ℕ, _+_, _*_, _-_, _≤_, _<_}
 use native.Mathlib.Omega.{arith}
 use native.Mathlib.Nat.{le-refl}
 use native.Mathlib.Decide.{decLt}
 use mathlib.Core.Path.{_≡_, refl, sym, _∙_, ap}
 use mathlib.Core.Bool.{Bool, true, false, cond}
 use mathlib.Core.List.{List, [], _∷_}
-use lib.ListN.{length, getD, take, drop, length-take, length-drop, List·getD-eq-default}
+use lib.ListN.{length, take, drop, length-take, length-drop, List·getD-eq-default}
 use lib.Seq.{take-all, drop-drop, getD-take, getD-drop, length-take-le}
 use lib.Dec.{leb}
-use borrow.Author.Tests.{leb-true, le-leb, lt-leb}
-use Rattle.field.specs.Field.{Field, cut, whole, front, bodied, byte, word, Bytes, Stands}
+use borrow.Author.Tests.{leb-true}
+use Rattle.field.specs.Field.{cut, whole, front, bodied, byte, Bytes, Stands}
 
 whole-chosen : (b : Bool) (t t' : ℕ) (x y x' y' : List ℕ) → cond b (whole t x y) cut ≡ whole t' x' y' → (b ≡ true) × (t ≡ t') × (x ≡ x') × (y ≡ y')
 whole-chosen true t t' x y x' y' e = (refl, cc, cc, cc)

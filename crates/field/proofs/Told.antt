@@ -1,16 +1,13 @@
 -- What the code tells of the front, read both ways: which answer fits which bytes, and what an answer says of the bytes.
-use Prim.Native.Nat.{ℕ, suc, _+_, _*_, _-_, _≤_, _<_}
+use Prim.Native.Nat.{ℕ, _+_, _-_, _≤_, _<_}
 use native.Mathlib.Omega.{arith}
-use mathlib.Core.Path.{_≡_, refl, sym, _∙_, ap}
-use mathlib.Core.Bool.{Bool, true, false, cond}
+use mathlib.Core.Path.{_≡_, refl, _∙_, ap}
 use mathlib.Core.List.{List, [], _∷_}
-use lib.ListN.{length, getD, take, drop, length-take}
-use lib.Seq.{drop-drop, length-take-le}
-use lib.Dec.{leb}
-use borrow.Author.Tests.{leb-true, le-leb, lt-leb}
-use Rattle.field.specs.Field.{Field, cut, whole, front, bodied, byte, word, Stands}
+use lib.ListN.{length, take, drop}
+use lib.Seq.{length-take-le}
+use borrow.Author.Tests.{le-leb, lt-leb}
+use Rattle.field.specs.Field.{Field, cut, whole, front, bodied, byte, word}
 use Rattle.field.specs.Front.{told, frontOf}
-use Rattle.field.specs.declared.AtFront.{AtFront}
 use Rattle.field.specs.declared.AtFront.the-variants.{Whole, Cut, End}
 use Rattle.field.proofs.Standing.{stands}
 
@@ -78,5 +75,13 @@ at-whole (b ∷ s) tag n e = go (front (b ∷ s)) refl e
     go (whole t x y) w e =
         let l : length x ≡ n = cc in
         let k : t ≡ tag = cc in
-        let h = stands (b ∷ s) t x y w in
-        (record { first = b; others = s; some = refl; the-front = w ∙ rw (k, h .the-rest, ← l) (ap (λ z. whole tag z (drop (3 + length x) (b ∷ s))) (h .the-body)) }, rw (← l) (h .fits))
+        let h = stands (b ∷ s) t x y w in (
+          record {
+            first = b;
+            others = s;
+            some = refl;
+            the-front = w
+                ∙ rw (k, h .the-rest, ← l) (ap (λ z. whole tag z (drop (3 + length x) (b ∷ s))) (h .the-body));
+          },
+          rw (← l) (h .fits),
+        )

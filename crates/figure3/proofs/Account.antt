@@ -35,13 +35,15 @@ module _ (p : Problem) (r : Readable p) where
   demanded ds = asked p .demands ++ askedRaised (p .nodes) ds
 
   concluded-account : (k n : ℕ) (bs : List Binding) (ds : List Demand) → n + k ≡ p .limit → Over p n bs ds
-      → (o : Option Facts) → resolvedAll (meaning (p .nodes) bs) (demanded ds) ≡ o → Wherever (NamedFact (p .atoms) (p .variables)) o → Account p (concluded p k bs o)
+      → (o : Option Facts) → resolvedAll (meaning (p .nodes) bs) (demanded ds) ≡ o → Wherever (NamedFact (p .atoms) (p .variables)) o
+      → Account p (concluded p k bs o)
   concluded-account k n bs ds e h none q w = not-fresh n bs ds h (all-fail (meaning (p .nodes) bs) (demanded ds) q)
   concluded-account k n bs ds e h (some fs) q w =
       let m : p .limit - k ≡ n = omega arith in
       solved {steps = p .limit - k} {bs = bs} {fs = facts p fs} ds fs (rw m h) (all-resolve (meaning (p .nodes) bs) (demanded ds) fs q) (same-facts fs w)
 
-  end-account : (e : End) → Ran (groundOf p) (asked p .demands) (asked p) (p .limit) e → AtEnd (State (groundOf p) (p .variables) (r .named-nodes)) e → Account p (verdictOf p e)
+  end-account : (e : End) → Ran (groundOf p) (asked p .demands) (asked p) (p .limit) e → AtEnd (State (groundOf p) (p .variables) (r .named-nodes)) e
+      → Account p (verdictOf p e)
   unfolding verdictOf
   end-account (limit m) h s = at-limit h
   end-account (refused x m) (n, l, t, k) s = stuck x n l t k
@@ -52,7 +54,8 @@ module _ (p : Problem) (r : Readable p) where
   at-end : AtEnd (State (groundOf p) (p .variables) (r .named-nodes)) (runOf p)
   unfolding runOf
   at-end =
-      run-end (groundOf p) (State (groundOf p) (p .variables) (r .named-nodes)) (λ e es bs ds qs b d s q. state-next (groundOf p) (p .variables) (r .named-nodes) e es bs ds qs b d s q)
+      run-end (groundOf p) (State (groundOf p) (p .variables) (r .named-nodes))
+      (λ e es bs ds qs b d s q. state-next (groundOf p) (p .variables) (r .named-nodes) e es bs ds qs b d s q)
       (p .limit) (equationsFrom (p .atoms) 0 (p .equations)) [] [] (start p r (groundOf p .protected))
 
   -- Demand 2: "the one run of their transformations that document 01 fixes".
@@ -94,7 +97,10 @@ ends-verdict p (finished k bs ds) h n e = concluded-ends p k bs (resolvedAll (me
 -- 003, lemma 3.2, for the solver: with a number of steps, and every larger one, the verdict is not 8.
 pub limit-enough : (p : Problem) → Readable p → (N : ℕ) × ((L : ℕ) → N ≤ L → (n : ℕ) → verdictOf (withLimit p L) (runOf (withLimit p L)) ≢ refusal 8 n)
 unfolding runOf
-limit-enough p r = let (N, h) = enough p r (groundOf p .protected) in (N, λ L l n. ends-verdict (withLimit p L) (run (groundOf p) L (equationsFrom (p .atoms) 0 (p .equations)) [] []) (h L l) n)
+limit-enough p r =
+    let (N, h) =
+    enough p r (groundOf p .protected) in
+    (N, λ L l n. ends-verdict (withLimit p L) (run (groundOf p) L (equationsFrom (p .atoms) 0 (p .equations)) [] []) (h L l) n)
 
 -- With more steps the verdict stays: the steps that it counts are those taken.
 longer-verdict : (p : Problem) (L j : ℕ) (e : End) → verdictOf (withLimit p (L + j)) (longer j e) ≡ verdictOf (withLimit p L) e
@@ -107,7 +113,8 @@ longer-verdict p L j (finished k bs ds) = by-facts (resolvedAll (meaning (p .nod
     by-facts none = refl
     by-facts (some fs) = let m : (L + j) - (k + j) ≡ L - k = omega arith in rw m
 
-pub verdict-longer : (p : Problem) (L j : ℕ) → Ends (runOf (withLimit p L)) → verdictOf (withLimit p (L + j)) (runOf (withLimit p (L + j))) ≡ verdictOf (withLimit p L) (runOf (withLimit p L))
+pub verdict-longer : (p : Problem) (L j : ℕ) → Ends (runOf (withLimit p L))
+    → verdictOf (withLimit p (L + j)) (runOf (withLimit p (L + j))) ≡ verdictOf (withLimit p L) (runOf (withLimit p L))
 unfolding runOf
 verdict-longer p L j h =
     let es : List Equation = equationsFrom (p .atoms) 0 (p .equations) in

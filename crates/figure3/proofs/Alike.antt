@@ -2,22 +2,18 @@
 use Prim.Native.Nat.{ℕ}
 use mathlib.Core.Path.{_≡_, refl, _∙_}
 use mathlib.Core.List.{List, [], _∷_, _++_, map}
-use Rattle.permutation.specs.Swaps.{Swaps, Alike}
-use Rattle.permutation.proofs.Swaps.{by-eq}
-use Rattle.nominal.specs.Tree.{Tree, variable, permute, Substitution, substitute, replacing}
-use Rattle.nominal.specs.Solutions.{Demand, Equation, Problem}
+use Rattle.names.proofs.Equal.{by-eq}
+use Rattle.nominal.specs.Tree.{Tree, variable, Substitution, substitute, replacing}
+use Rattle.nominal.specs.Solutions.{TreeDemand, TreeEquation, TreeProblem}
 use Rattle.nominal.proofs.Replacing.{replacing-same, replacing-other}
 use Rattle.nominal.specs.Same.{Same}
-use Rattle.run.proofs.Same.{same-reflexive, same-transitive, same-permute, same-permuted, same-substitute, same-substitutions}
+use Rattle.run.proofs.Same.{same-reflexive, same-transitive, same-substitute, same-substitutions}
 use Rattle.figure3.specs.Figure3.{Each, AlikeDemands, AlikeEquations, AlikeProblems, AlikeSubstitutions, FirstPhase, none, then}
 
 -- ---- trees and substitutions
 
 pub same-of : {s t : Tree} → s ≡ t → Same s t
 same-of {s} {t} p = rw p (same-reflexive t)
-
-pub same-under : (π ρ : Swaps) {s t : Tree} → Alike π ρ → Same s t → Same (permute π s) (permute ρ t)
-same-under π ρ {s} h e = same-transitive (same-permute π ρ h s) (same-permuted ρ e)
 
 pub same-put : (σ τ : Substitution) {s t : Tree} → AlikeSubstitutions σ τ → Same s t → Same (substitute σ s) (substitute τ t)
 same-put σ τ {s} h e = same-transitive (same-substitutions σ τ h s) (same-substitute τ e)
@@ -52,22 +48,26 @@ each-transitive R h (x ∷ l) (y ∷ m) (z ∷ n) a b = (h x y z (a .0) (b .0), 
 
 -- ---- problems
 
-pub demands-reflexive : (D : List Demand) → Each AlikeDemands D D
+pub demands-reflexive : (D : List TreeDemand) → Each AlikeDemands D D
 demands-reflexive D = each-reflexive AlikeDemands (λ d. (refl, same-reflexive (d .1))) D
 
-pub equations-reflexive : (E : List Equation) → Each AlikeEquations E E
+pub equations-reflexive : (E : List TreeEquation) → Each AlikeEquations E E
 equations-reflexive E = each-reflexive AlikeEquations (λ e. (same-reflexive (e .0), same-reflexive (e .1))) E
 
-pub alike-transitive : {P Q R : Problem} → AlikeProblems P Q → AlikeProblems Q R → AlikeProblems P R
+pub alike-transitive : {P Q R : TreeProblem} → AlikeProblems P Q → AlikeProblems Q R → AlikeProblems P R
 alike-transitive {P} {Q} {R} a b = record {
-  demands = each-transitive AlikeDemands (λ c d e x y. (x .0 ∙ y .0, same-transitive (x .1) (y .1))) (P .demands) (Q .demands) (R .demands) (a .demands) (b .demands);
-  equations = each-transitive AlikeEquations (λ c d e x y. (same-transitive (x .0) (y .0), same-transitive (x .1) (y .1))) (P .equations) (Q .equations) (R .equations) (a .equations) (b .equations);
+  demands =
+      each-transitive AlikeDemands (λ c d e x y. (x .0 ∙ y .0, same-transitive (x .1) (y .1))) (P .demands) (Q .demands) (R .demands) (a .demands) (b .demands);
+  equations =
+      each-transitive AlikeEquations (λ c d e x y. (same-transitive (x .0) (y .0), same-transitive (x .1) (y .1))) (P .equations) (Q .equations) (R .equations)
+      (a .equations) (b .equations);
 }
 
-pub alike-reflexive : (P : Problem) → AlikeProblems P P
+pub alike-reflexive : (P : TreeProblem) → AlikeProblems P P
 alike-reflexive P = record { demands = demands-reflexive (P .demands); equations = equations-reflexive (P .equations) }
 
 -- A sequence may end in any problem alike to its last.
-pub phase-alike : {isProtected : ℕ → Type 0} {P Q R : Problem} {n : ℕ} {τ : Substitution} → FirstPhase isProtected P n τ Q → AlikeProblems Q R → FirstPhase isProtected P n τ R
+pub phase-alike : {isProtected : ℕ → Type 0} {P Q R : TreeProblem} {n : ℕ} {τ : Substitution} → FirstPhase isProtected P n τ Q → AlikeProblems Q R
+    → FirstPhase isProtected P n τ R
 phase-alike (none a) b = none (alike-transitive a b)
 phase-alike (then s f a) b = then s f (alike-transitive a b)

@@ -5,32 +5,35 @@ use mathlib.Core.Logic.{_≢_}
 use mathlib.Core.List.{List}
 use Rattle.permutation.specs.Swaps.{Swaps}
 use Rattle.nominal.specs.Tree.{Tree, atom, application, suspension, Occurs}
-use Rattle.nominal.specs.Solutions.{Demand, Equation}
+use Rattle.nominal.specs.Solutions.{TreeDemand, TreeEquation}
 use Rattle.nominal.specs.Form.{form}
 use Rattle.nominal.specs.Same.{Same, same-unit, same-atom, same-abstraction, same-pair, same-application, same-suspension}
 use Rattle.run.proofs.Same.{same-symmetric, same-occurs}
-use Rattle.figure3.specs.Figure3.{Label, Equational, ≈?-unit, ≈?-pair, ≈?-function-symbol, ≈?-abstraction-1, ≈?-abstraction-2, ≈?-atom, ≈?-suspension, ≈?-variable-right, ≈?-variable-left, NoEquational}
+use Rattle.figure3.specs.Figure3.{Label, Equational, ≈?-unit, ≈?-pair, ≈?-function-symbol, ≈?-abstraction-1, ≈?-abstraction-2, ≈?-atom, ≈?-suspension}
+use Rattle.figure3.specs.Figure3.{≈?-variable-right, ≈?-variable-left, NoEquational}
 
 -- Some rule is for t ≈? t′.
 pub record Some (isProtected : ℕ → Type 0) (t t′ : Tree) : Type 0 where
   pub label : Label
-  pub equations : List Equation
-  pub demands : List Demand
+  pub equations : List TreeEquation
+  pub demands : List TreeDemand
   pub rule : Equational isProtected t t′ label equations demands
 
 module _ {isProtected : ℕ → Type 0} where
-  some : {t t′ : Tree} {σ : Label} {E : List Equation} {D : List Demand} → Equational isProtected t t′ σ E D → Some isProtected t t′
+  some : {t t′ : Tree} {σ : Label} {E : List TreeEquation} {D : List TreeDemand} → Equational isProtected t t′ σ E D → Some isProtected t t′
   some {σ = σ} {E = E} {D = D} r = record { label = σ; equations = E; demands = D; rule = r }
 
   -- The rules do not tell alike trees apart.
-  pub rule-alike : {s t s′ t′ : Tree} {σ : Label} {E : List Equation} {D : List Demand} → Same s s′ → Same t t′ → Equational isProtected s t σ E D → Some isProtected s′ t′
+  pub rule-alike : {s t s′ t′ : Tree} {σ : Label} {E : List TreeEquation} {D : List TreeDemand} → Same s s′ → Same t t′ → Equational isProtected s t σ E D
+      → Some isProtected s′ t′
   rule-alike same-unit same-unit ≈?-unit = some ≈?-unit
   rule-alike (same-pair a b) (same-pair c d) ≈?-pair = some ≈?-pair
   rule-alike (same-application a) (same-application b) ≈?-function-symbol = some ≈?-function-symbol
   rule-alike (same-abstraction a) (same-abstraction b) ≈?-abstraction-1 = some ≈?-abstraction-1
   rule-alike (same-abstraction a) (same-abstraction b) (≈?-abstraction-2 n) = some (≈?-abstraction-2 n)
   rule-alike same-atom same-atom ≈?-atom = some ≈?-atom
-  rule-alike (same-suspension h) (same-suspension k) (≈?-suspension ds i) = some (≈?-suspension ds (λ a. (λ o p. i a .0 o (h a ∙ p ∙ sym (k a)), λ n. i a .1 (λ p. n (sym (h a) ∙ p ∙ k a)))))
+  rule-alike (same-suspension h) (same-suspension k) (≈?-suspension ds i) =
+      some (≈?-suspension ds (λ a. (λ o p. i a .0 o (h a ∙ p ∙ sym (k a)), λ n. i a .1 (λ p. n (sym (h a) ∙ p ∙ k a)))))
   rule-alike a (same-suspension h) (≈?-variable-right {X = X} p n) = some (≈?-variable-right p (λ o. n (rw (same-occurs X (same-symmetric a)) at o)))
   rule-alike (same-suspension h) b (≈?-variable-left {X = X} p n) = some (≈?-variable-left p (λ o. n (rw (same-occurs X (same-symmetric b)) at o)))
 

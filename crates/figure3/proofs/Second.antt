@@ -7,17 +7,14 @@ use mathlib.Core.List.{List, [], _∷_, _++_, append-assoc}
 use mathlib.Core.Option.{Option, none, some}
 use borrow.Author.Tests.{eq-eqb, ne-eqb}
 use Rattle.permutation.specs.Swaps.{act, inverse}
-use Rattle.permutation.proofs.Swaps.{by-eq}
+use Rattle.names.proofs.Equal.{by-eq}
 use Rattle.nominal.specs.Tree.{Tree, unit, atom, abstraction, pair, application, suspension, Substitution, substitute}
-use Rattle.nominal.specs.Solutions.{Facts, Demand, Equation, Problem}
+use Rattle.nominal.specs.Solutions.{Facts, TreeDemand, TreeEquation, TreeProblem}
 use Rattle.run.specs.Meaning.{both, freshFor}
 use Rattle.run.specs.Answer.{Asked, resolvedAll}
-use Rattle.figure3.specs.Figure3.{#?-unit, #?-pair, #?-function-symbol, #?-abstraction-1, #?-abstraction-2, #?-atom, #?-suspension, Second, second, SecondPhase, stays, goes, NoFreshness, emptyProblem, Fails}
+use Rattle.figure3.specs.Figure3.{#?-unit, #?-pair, #?-function-symbol, #?-abstraction-1, #?-abstraction-2, #?-atom, #?-suspension, SecondStep, second}
+use Rattle.figure3.specs.Figure3.{SecondPhase, stays, goes, emptyProblem, Fails}
 use Rattle.figure3.specs.Ran.{putAsked}
-
--- "a #? a" has no rule.
-pub none-itself : (a : ℕ) → NoFreshness a (atom a)
-none-itself a ∇ D (#?-atom n) = n refl
 
 no-clash : {A : Type 0} {x : A} → _≡_ {A = Option A} none (some x) → ⊥
 no-clash e = let z : _≡_ {A = ℕ} 0 1 = cc in omega arith
@@ -33,9 +30,10 @@ both-none none d e f k = f refl
 both-none (some x) none e f k = k x refl refl
 both-none (some x) (some y) e f k = absurd (no-clash (sym e))
 
-module _ (E : List Equation) where
+module _ (E : List TreeEquation) where
   -- A demand that comes down to facts is resolved, with them as the label.
-  fresh-resolves : (a : ℕ) (t : Tree) (fs : Facts) → freshFor a t ≡ some fs → (D : List Demand) {∇ : Facts} {R : Problem} → SecondPhase (record { demands = D; equations = E }) ∇ R
+  fresh-resolves : (a : ℕ) (t : Tree) (fs : Facts) → freshFor a t ≡ some fs → (D : List TreeDemand) {∇ : Facts} {R : TreeProblem}
+      → SecondPhase (record { demands = D; equations = E }) ∇ R
       → SecondPhase (record { demands = (a, t) ∷ D; equations = E }) (fs ++ ∇) R
   fresh-resolves a unit fs e D s = let p : fs ≡ [] = cc in rw p (goes (second [] D E #?-unit) s)
   fresh-resolves a (atom b) fs e D s =
@@ -57,15 +55,17 @@ module _ (E : List Equation) where
   fresh-resolves a (suspension π X) fs e D s = let p : fs ≡ (act (inverse π) a, X) ∷ [] = cc in rw p (goes (second [] D E #?-suspension) s)
 
   -- A transformation, or a sequence of them, before a failure.
-  fails-after : {D D′ : List Demand} {∇ : Facts} → Second (record { demands = D; equations = E }) ∇ (record { demands = D′; equations = E }) → Fails (record { demands = D′; equations = E })
+  fails-after : {D D′ : List TreeDemand} {∇ : Facts} → SecondStep (record { demands = D; equations = E }) ∇ (record { demands = D′; equations = E })
+      → Fails (record { demands = D′; equations = E })
       → Fails (record { demands = D; equations = E })
   fails-after {∇ = ∇} f k = record { label = ∇ ++ k .label; atom = k .atom; others = k .others; sequence = goes f (k .sequence) }
 
-  fails-behind : (a : ℕ) (t : Tree) (fs : Facts) → freshFor a t ≡ some fs → (D : List Demand) → Fails (record { demands = D; equations = E }) → Fails (record { demands = (a, t) ∷ D; equations = E })
+  fails-behind : (a : ℕ) (t : Tree) (fs : Facts) → freshFor a t ≡ some fs → (D : List TreeDemand) → Fails (record { demands = D; equations = E })
+      → Fails (record { demands = (a, t) ∷ D; equations = E })
   fails-behind a t fs e D k = record { label = fs ++ k .label; atom = k .atom; others = k .others; sequence = fresh-resolves a t fs e D (k .sequence) }
 
   -- A demand that ends at an atom fresh for itself leads there.
-  fresh-fails : (a : ℕ) (t : Tree) → freshFor a t ≡ none → (D : List Demand) → Fails (record { demands = (a, t) ∷ D; equations = E })
+  fresh-fails : (a : ℕ) (t : Tree) → freshFor a t ≡ none → (D : List TreeDemand) → Fails (record { demands = (a, t) ∷ D; equations = E })
   fresh-fails a unit e D = absurd (no-clash (sym e))
   fresh-fails a (atom b) e D =
       by-eq a b (λ q. rw q (record { label = []; atom = b; others = D; sequence = stays })) λ n.
@@ -81,7 +81,8 @@ module _ (E : List Equation) where
   fresh-fails a (suspension π X) e D = absurd (no-clash (sym e))
 
 -- All demands: "∇₁ ∪ .. ∪ ∇ₘ" are the facts that they come down to.
-pub all-resolve : (σ : Substitution) (ds : List Asked) (fs : Facts) → resolvedAll σ ds ≡ some fs → SecondPhase (record { demands = putAsked σ ds; equations = [] }) fs emptyProblem
+pub all-resolve : (σ : Substitution) (ds : List Asked) (fs : Facts) → resolvedAll σ ds ≡ some fs
+    → SecondPhase (record { demands = putAsked σ ds; equations = [] }) fs emptyProblem
 unfolding resolvedAll
 all-resolve σ [] fs e = let p : fs ≡ [] = cc in rw p stays
 all-resolve σ (d ∷ ds) fs e =

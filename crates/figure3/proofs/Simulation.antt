@@ -24,27 +24,33 @@ use Rattle.run.specs.Answer.{subjectTree}
 use Rattle.nominal.specs.Same.{Same}
 use Rattle.run.proofs.Same.{same-reflexive, same-symmetric, same-transitive, same-permute, same-substitute, alike-inverse}
 use Rattle.run.proofs.Trees.{Permuting, Fits, act-permuting, tree-under-inverted, tree-underSwap, underSwap, Shows, top-shows, TopFits, top-fits}
-use Rattle.run.proofs.Did.{kind, NotOf, Did, step-did, two-units, same-atoms, same-abstractions, other-abstractions, two-pairs, same-symbols, one-variable, left-bound, right-bound, left-inside, right-inside, left-protected, right-protected, both-protected, different-forms, different-atoms, different-symbols}
+use Rattle.run.proofs.Tops.{kind}
+use Rattle.run.proofs.Did.{NotOf, Did, step-did, two-units, same-atoms, same-abstractions, other-abstractions, two-pairs, same-symbols, one-variable}
+use Rattle.run.proofs.Did.{left-bound, right-bound, left-inside, right-inside, left-protected, right-protected, both-protected, different-forms}
+use Rattle.run.proofs.Did.{different-atoms, different-symbols}
 use Rattle.run.proofs.Questions.{occursIn-true, occursIn-false}
 use Rattle.run.proofs.Bindings.{Settled, Meant, resolved-same}
-use Rattle.figure3.specs.Figure3.{ε, _:=_, Equational, ≈?-unit, ≈?-pair, ≈?-function-symbol, ≈?-abstraction-1, ≈?-abstraction-2, ≈?-atom, ≈?-suspension, ≈?-variable-right, ≈?-variable-left, Each, AlikeDemands, AlikeEquations}
+use Rattle.figure3.specs.Figure3.{ε, _:=_, Equational, ≈?-unit, ≈?-pair, ≈?-function-symbol, ≈?-abstraction-1, ≈?-abstraction-2, ≈?-atom, ≈?-suspension}
+use Rattle.figure3.specs.Figure3.{≈?-variable-right, ≈?-variable-left, Each, AlikeDemands, AlikeEquations}
 use Rattle.figure3.specs.Ran.{Protected, Stuck}
 use Rattle.figure3.proofs.Alike.{equations-reflexive}
-use Rattle.figure3.proofs.Rules.{none-alike, none-forms, none-atoms, none-symbols, none-inside-left, none-inside-right, none-protected-left, none-protected-right, none-both-protected}
+use Rattle.figure3.proofs.Rules.{none-alike, none-forms, none-atoms, none-symbols, none-inside-left, none-inside-right, none-protected-left}
+use Rattle.figure3.proofs.Rules.{none-protected-right, none-both-protected}
 
 -- A side with the meaning of the bindings put in; so the equations and demands of a step.
 abbrev pub meantTree : Ground → List Binding → Side → Tree
 meantTree g bs s = substitute (meaning (g .nodes) bs) (sideTree (g .nodes) s)
 
-abbrev pub meantEquations : Ground → List Binding → List (Side × Side) → List Solutions.Equation
+abbrev pub meantEquations : Ground → List Binding → List (Side × Side) → List Solutions.TreeEquation
 meantEquations g bs qs = map (λ q. (meantTree g bs (q .0), meantTree g bs (q .1))) qs
 
-abbrev pub meantDemands : Ground → List Binding → List (ℕ × Subject) → List Solutions.Demand
+abbrev pub meantDemands : Ground → List Binding → List (ℕ × Subject) → List Solutions.TreeDemand
 meantDemands g bs d = map (λ x. (x .0, substitute (meaning (g .nodes) bs) (subjectTree (g .nodes) (x .1)))) d
 
 -- A step that goes on is a rule's: one with label ε, whose parts are the new equations and demands; or (≈?-variable), whose label is the binding.
 pub data Simulates (g : Ground) (bs : List Binding) (s t : Tree) : List (Side × Side) → List (ℕ × Side) → List (ℕ × Subject) → Type 0 where
-  simplifies : {E : List Solutions.Equation} {D : List Solutions.Demand} {qs : List (Side × Side)} {d : List (ℕ × Subject)} → Equational (Protected g) s t ε E D
+  simplifies : {E : List Solutions.TreeEquation} {D : List Solutions.TreeDemand} {qs : List (Side × Side)} {d : List (ℕ × Subject)}
+      → Equational (Protected g) s t ε E D
       → Each AlikeEquations E (meantEquations g bs qs) → Each AlikeDemands D (meantDemands g bs d) → Simulates g bs s t qs [] d
   binds : {X : ℕ} {u : Tree} {v : Side} → Equational (Protected g) s t (X := u) [] [] → Same u (meantTree g bs v) → Simulates g bs s t [] ((X, v) ∷ []) []
 
@@ -65,7 +71,8 @@ shows-form nodes t (application-form f s) h = rw h
 shows-form nodes t (suspension-form P X) h = rw (h .1)
 
 -- Tables that disagree are lists of swaps that disagree.
-disagreeing : (atoms : ℕ) (P Q : Table) (π ρ : Swaps) → Permuting atoms P → Permuting atoms Q → ((a : ℕ) → act π a ≡ image P a) → ((a : ℕ) → act ρ a ≡ image Q a)
+disagreeing : (atoms : ℕ) (P Q : Table) (π ρ : Swaps) → Permuting atoms P → Permuting atoms Q → ((a : ℕ) → act π a ≡ image P a)
+    → ((a : ℕ) → act ρ a ≡ image Q a)
     → (a : ℕ) → List·Memᴰ a (disagreement P Q) ↔ Disagree π ρ a
 disagreeing atoms P Q π ρ p q h k a = (
   λ o e. mem-disagreement P Q a .0 o .1 (sym (h a) ∙ e ∙ k a),
@@ -90,7 +97,8 @@ module _ (g : Ground) (variables : ℕ) {bs : List Binding} (m : Meant g variabl
   meant-other s w h n e = n (sym (meant-form s w h n) ∙ e)
 
   -- A side that holds X and is no suspension of X is no suspension.
-  holding : (X : ℕ) (s : Side) (w : Form Table Side) → Shows (g .nodes) (sideTree (g .nodes) s) w → Settled bs w → NotOf X w → Occurs X (meantTree g bs s) → form (meantTree g bs s) ≢ 5
+  holding : (X : ℕ) (s : Side) (w : Form Table Side) → Shows (g .nodes) (sideTree (g .nodes) s) w → Settled bs w → NotOf X w → Occurs X (meantTree g bs s)
+      → form (meantTree g bs s) ≢ 5
   holding X s unit-form h a n o = meant-other s unit-form h (λ e. omega arith)
   holding X s (atom-form c) h a n o = meant-other s (atom-form c) h (λ e. omega arith)
   holding X s (abstraction-form c t) h a n o = meant-other s (abstraction-form c t) h (λ e. omega arith)
@@ -107,7 +115,8 @@ module _ (g : Ground) (variables : ℕ) {bs : List Binding} (m : Meant g variabl
       same-transitive (same-permute (inverse ρ) (inverse (swapsOf P)) (alike-inverse ρ (swapsOf P) (λ a. h a ∙ sym (act-permuting p a))) (meantTree g bs t))
       (same-symmetric (rw substitute-permute at (same-substitute (meaning (g .nodes) bs) (tree-under-inverted (g .nodes) p f))))
 
-  demands-variable : (X : ℕ) → valueOf bs X ≡ none → (ds : List ℕ) → Each AlikeDemands (map (λ a. (a, variable X)) ds) (meantDemands g bs (map (λ a. (a, of-variable X)) ds))
+  demands-variable : (X : ℕ) → valueOf bs X ≡ none → (ds : List ℕ)
+      → Each AlikeDemands (map (λ a. (a, variable X)) ds) (meantDemands g bs (map (λ a. (a, of-variable X)) ds))
   demands-variable X f [] = tt
   demands-variable X f (a ∷ ds) = ((refl, rw (permute-nil, m .free X f) (same-reflexive (variable X))), demands-variable X f ds)
 
@@ -117,22 +126,34 @@ module _ (g : Ground) (variables : ℕ) {bs : List Binding} (m : Meant g variabl
       → DoneAs g bs (meantTree g bs s) (meantTree g bs t) x
   did-as s t f h two-units p q i j a b = rw (p, q) (simplifies ≈?-unit tt tt)
   did-as s t f h same-atoms p q i j a b = rw (p, q) (simplifies ≈?-atom tt tt)
-  did-as s t f h (same-abstractions {u = u} {v = v}) p q i j a b = rw (p, q) (simplifies ≈?-abstraction-1 (equations-reflexive (meantEquations g bs ((u, v) ∷ []))) tt)
+  did-as s t f h (same-abstractions {u = u} {v = v}) p q i j a b =
+      rw (p, q) (simplifies ≈?-abstraction-1 (equations-reflexive (meantEquations g bs ((u, v) ∷ []))) tt)
   did-as s t f h (other-abstractions {a = c} {b = d} {u = u} {v = v} n) p q i j a b =
-      rw (p, q) (simplifies {qs = (u, underSwap c d v) ∷ []} {d = (c, of-side v) ∷ []} (≈?-abstraction-2 n)
-      ((same-reflexive (meantTree g bs u), same-symmetric (rw substitute-permute at (same-substitute (meaning (g .nodes) bs) (tree-underSwap (g .nodes) c d (i .0) (j .0) (j .1))))), tt)
+      rw (p, q) (simplifies {qs = (u, underSwap c d v) ∷ []} {d = (c, of-side v) ∷ []} (≈?-abstraction-2 n) (
+        (
+          same-reflexive (meantTree g bs u),
+          same-symmetric
+              (rw substitute-permute at (same-substitute (meaning (g .nodes) bs) (tree-underSwap (g .nodes) c d (i .0) (j .0) (j .1)))),
+        ),
+        tt,
+      )
       ((refl, same-reflexive (meantTree g bs v)), tt))
-  did-as s t f h (two-pairs {l = l} {r = r} {v = v} {w = w}) p q i j a b = rw (p, q) (simplifies ≈?-pair (equations-reflexive (meantEquations g bs ((l, v) ∷ (r, w) ∷ []))) tt)
-  did-as s t f h (same-symbols {u = u} {v = v}) p q i j a b = rw (p, q) (simplifies ≈?-function-symbol (equations-reflexive (meantEquations g bs ((u, v) ∷ []))) tt)
+  did-as s t f h (two-pairs {l = l} {r = r} {v = v} {w = w}) p q i j a b =
+      rw (p, q) (simplifies ≈?-pair (equations-reflexive (meantEquations g bs ((l, v) ∷ (r, w) ∷ []))) tt)
+  did-as s t f h (same-symbols {u = u} {v = v}) p q i j a b =
+      rw (p, q) (simplifies ≈?-function-symbol (equations-reflexive (meantEquations g bs ((u, v) ∷ []))) tt)
   did-as s t f h (one-variable {P = P} {Q = Q} {X = X}) p q i j a b =
       rw (meant-suspension s (p .0) X (p .1) (a P X refl), meant-suspension t (q .0) X (q .1) (b Q X refl))
-      (simplifies (≈?-suspension (disagreement P Q) (disagreeing (g .atoms) P Q (p .0) (q .0) (i .0) (j .0) (p .2) (q .2))) tt (demands-variable X (a P X refl) (disagreement P Q)))
+      (simplifies (≈?-suspension (disagreement P Q) (disagreeing (g .atoms) P Q (p .0) (q .0) (i .0) (j .0) (p .2) (q .2))) tt
+      (demands-variable X (a P X refl) (disagreement P Q)))
   did-as s t f h (left-bound {P = P} {X = X} n u o) p q i j a b =
       rw (meant-suspension s (p .0) X (p .1) (a P X refl))
-      (binds (≈?-variable-left {t = meantTree g bs t} {π = p .0} (unprotected (g .protected X) u) (occursIn-false X (meantTree g bs t) o)) (meant-value P (p .0) t (i .0) h (p .2)))
+      (binds (≈?-variable-left {t = meantTree g bs t} {π = p .0} (unprotected (g .protected X) u) (occursIn-false X (meantTree g bs t) o))
+      (meant-value P (p .0) t (i .0) h (p .2)))
   did-as s t f h (right-bound {Q = Q} {Y = Y} n k u o) p q i j a b =
       rw (meant-suspension t (q .0) Y (q .1) (b Q Y refl))
-      (binds (≈?-variable-right {t = meantTree g bs s} {π = q .0} (unprotected (g .protected Y) u) (occursIn-false Y (meantTree g bs s) o)) (meant-value Q (q .0) s (j .0) f (q .2)))
+      (binds (≈?-variable-right {t = meantTree g bs s} {π = q .0} (unprotected (g .protected Y) u) (occursIn-false Y (meantTree g bs s) o))
+      (meant-value Q (q .0) s (j .0) f (q .2)))
   did-as s t f h (left-inside {P = P} {X = X} {w = w} n u o) p q i j a b =
       let k : Occurs X (meantTree g bs t) = occursIn-true X (meantTree g bs t) o in
       rw (meant-suspension s (p .0) X (p .1) (a P X refl)) (none-inside-left (holding X t w q b n k) k)
@@ -163,7 +184,8 @@ stuck-alike g clash a b n = none-alike a b n
 stuck-alike g inside a b n = none-alike a b n
 stuck-alike g protection a b n = none-alike a b n
 
-module _ (g : Ground) (variables : ℕ) (named : (n : ℕ) → Named (g .atoms) variables n (formAt (g .nodes) n)) {bs : List Binding} (m : Meant g variables bs (meaning (g .nodes) bs)) where
+module _ (g : Ground) (variables : ℕ) (named : (n : ℕ) → Named (g .atoms) variables n (formAt (g .nodes) n)) {bs : List Binding}
+    (m : Meant g variables bs (meaning (g .nodes) bs)) where
   pub step-as : (l r : Side) → Fits (g .atoms) (g .nodes) l → Fits (g .atoms) (g .nodes) r → Stepped g bs l r (step g bs l r)
   step-as l r f h =
       let s : Side = resolved g bs l in

@@ -9,21 +9,24 @@ use mathlib.Core.List.{List, [], _∷_, _++_, map, List·Memᴰ, List·Memᴰ·h
 use lib.ListN.{length}
 use lib.Dec.{eqb}
 use borrow.Author.Tests.{eq-eqb, ne-eqb}
-use Rattle.permutation.proofs.Swaps.{by-eq}
+use Rattle.names.proofs.Equal.{by-eq}
 use Rattle.nominal.specs.Tree.{Tree, unit, atom, abstraction, pair, application, suspension, variable, size, Occurs, substitute, replacing}
-use Rattle.nominal.specs.Solutions.{Every, Facts, Demand, Equation, Problem}
+use Rattle.nominal.specs.Solutions.{Every, Facts, TreeDemand, TreeEquation, TreeProblem}
 use Rattle.nominal.proofs.Tree.{size-permute, occurs-permute, occurs-substitute}
 use Rattle.nominal.proofs.Solutions.{every-append, every-map}
 use Rattle.nominal.proofs.Replacing.{replacing-same, replacing-other}
 use Rattle.run.proofs.Same.{same-size, same-occurs}
-use Rattle.figure3.specs.Figure3.{Label, ε, _:=_, putInto, Equational, ≈?-unit, ≈?-pair, ≈?-function-symbol, ≈?-abstraction-1, ≈?-abstraction-2, ≈?-atom, ≈?-suspension, ≈?-variable-right, ≈?-variable-left, First, first, Freshness, #?-unit, #?-pair, #?-function-symbol, #?-abstraction-1, #?-abstraction-2, #?-atom, #?-suspension, Second, second, Each, AlikeDemands, AlikeEquations, AlikeProblems, Terminates, terminates}
+use Rattle.figure3.specs.Figure3.{Label, ε, _:=_, putInto, Equational, ≈?-unit, ≈?-pair, ≈?-function-symbol, ≈?-abstraction-1, ≈?-abstraction-2, ≈?-atom}
+use Rattle.figure3.specs.Figure3.{≈?-suspension, ≈?-variable-right, ≈?-variable-left, First, first, Freshness, #?-unit, #?-pair, #?-function-symbol}
+use Rattle.figure3.specs.Figure3.{#?-abstraction-1, #?-abstraction-2, #?-atom, #?-suspension, SecondStep, second, Each, AlikeDemands, AlikeEquations}
+use Rattle.figure3.specs.Figure3.{AlikeProblems, Terminates, terminates}
 
 -- "the size (see Definition 2.10) of all equational problems in P"
-abbrev pub sizes : List Equation → ℕ
+abbrev pub sizes : List TreeEquation → ℕ
 sizes [] = 0
 sizes (e ∷ E) = (size (e .0) + size (e .1)) + sizes E
 
-sizes-append : (E F : List Equation) → sizes (E ++ F) ≡ sizes E + sizes F
+sizes-append : (E F : List TreeEquation) → sizes (E ++ F) ≡ sizes E + sizes F
 sizes-append [] F = omega arith
 sizes-append (e ∷ E) F = omega (arith, sizes-append E F)
 
@@ -31,13 +34,13 @@ sizes-append (e ∷ E) F = omega (arith, sizes-append E F)
 abbrev pub Uses : List ℕ → Tree → Type 0
 Uses Xs t = (X : ℕ) → Occurs X t → List·Memᴰ X Xs
 
-abbrev UsesDemand : List ℕ → Demand → Type 0
+abbrev UsesDemand : List ℕ → TreeDemand → Type 0
 UsesDemand Xs d = Uses Xs (d .1)
 
-abbrev UsesEquation : List ℕ → Equation → Type 0
+abbrev UsesEquation : List ℕ → TreeEquation → Type 0
 UsesEquation Xs e = Uses Xs (e .0) × Uses Xs (e .1)
 
-pub record Covers (Xs : List ℕ) (P : Problem) : Type 0 where
+pub record Covers (Xs : List ℕ) (P : TreeProblem) : Type 0 where
   pub demands : Every (UsesDemand Xs) (P .demands)
   pub equations : Every (UsesEquation Xs) (P .equations)
 
@@ -53,7 +56,8 @@ mem-without {X} n (List·Memᴰ·tail {x = Z} k) = by-eq Z X (λ q. rw (eq-eqb Z
 
 length-without : (X : ℕ) (Xs : List ℕ) → length (without X Xs) ≤ length Xs
 length-without X [] = omega arith
-length-without X (Y ∷ Xs) = by-eq Y X (λ q. rw (eq-eqb Y X q) (omega (arith, length-without X Xs))) (λ m. rw (ne-eqb Y X m) (omega (arith, length-without X Xs)))
+length-without X (Y ∷ Xs) =
+    by-eq Y X (λ q. rw (eq-eqb Y X q) (omega (arith, length-without X Xs))) (λ m. rw (ne-eqb Y X m) (omega (arith, length-without X Xs)))
 
 shorter-without : {X : ℕ} {Xs : List ℕ} → List·Memᴰ X Xs → length (without X Xs) < length Xs
 shorter-without {X} (List·Memᴰ·head {x = Y} {xs = Xs} p) = rw (eq-eqb Y X (sym p)) (omega (arith, length-without X Xs))
@@ -67,7 +71,7 @@ every-one Xs X k [] = tt
 every-one Xs X k (a ∷ ds) = (λ Y o. rw o k, every-one Xs X k ds)
 
 -- "the (≈?-variable) transition eliminates (completely) one variable from the unification problem"
-record Eliminates (s t : Tree) (X : ℕ) (u : Tree) (E : List Equation) (D : List Demand) : Type 0 where
+record Eliminates (s t : Tree) (X : ℕ) (u : Tree) (E : List TreeEquation) (D : List TreeDemand) : Type 0 where
   no-equations : E ≡ []
   no-demands : D ≡ []
   used : Occurs X s ⊎ Occurs X t
@@ -76,7 +80,7 @@ record Eliminates (s t : Tree) (X : ℕ) (u : Tree) (E : List Equation) (D : Lis
 
 module _ {isProtected : ℕ → Type 0} where
   -- "all other transitions leave the number of variables unchanged, but decrease n₂"
-  rule-shrinks : {s t : Tree} {E : List Equation} {D : List Demand} → Equational isProtected s t ε E D → sizes E < size s + size t
+  rule-shrinks : {s t : Tree} {E : List TreeEquation} {D : List TreeDemand} → Equational isProtected s t ε E D → sizes E < size s + size t
   rule-shrinks ≈?-unit = omega arith
   rule-shrinks ≈?-pair = omega arith
   rule-shrinks ≈?-function-symbol = omega arith
@@ -85,7 +89,7 @@ module _ {isProtected : ℕ → Type 0} where
   rule-shrinks ≈?-atom = omega arith
   rule-shrinks (≈?-suspension ds h) = omega arith
 
-  rule-keeps : (Xs : List ℕ) {s t : Tree} {E : List Equation} {D : List Demand} → Uses Xs s → Uses Xs t → Equational isProtected s t ε E D
+  rule-keeps : (Xs : List ℕ) {s t : Tree} {E : List TreeEquation} {D : List TreeDemand} → Uses Xs s → Uses Xs t → Equational isProtected s t ε E D
       → Every (UsesEquation Xs) E × Every (UsesDemand Xs) D
   rule-keeps Xs h k ≈?-unit = (tt, tt)
   rule-keeps Xs h k ≈?-pair = (((λ X o. h X (inl o), λ X o. k X (inl o)), ((λ X o. h X (inr o), λ X o. k X (inr o)), tt)), tt)
@@ -95,7 +99,8 @@ module _ {isProtected : ℕ → Type 0} where
   rule-keeps Xs h k ≈?-atom = (tt, tt)
   rule-keeps Xs h k (≈?-suspension {X = X} ds i) = (tt, every-one Xs X (h X refl) ds)
 
-  rule-eliminates : {s t : Tree} {X : ℕ} {u : Tree} {E : List Equation} {D : List Demand} → Equational isProtected s t (X := u) E D → Eliminates s t X u E D
+  rule-eliminates : {s t : Tree} {X : ℕ} {u : Tree} {E : List TreeEquation} {D : List TreeDemand} → Equational isProtected s t (X := u) E D
+      → Eliminates s t X u E D
   rule-eliminates (≈?-variable-right p n) = record {
     no-equations = refl;
     no-demands = refl;
@@ -117,29 +122,35 @@ uses-put Xs X u absent h t k Y o =
     by-eq Z X (λ p. let i : Occurs Y u = rw (p, replacing-same X u) at y in mem-without {Xs = Xs} (λ q. absent (rw q at i)) (h Y i)) λ n.
     let i : Y ≡ Z = rw (replacing-other X u Z n) at y in mem-without {Xs = Xs} (λ q. n (sym i ∙ q)) (rw i (k Z z))
 
-puts-demands : (Xs : List ℕ) (X : ℕ) (u : Tree) → (Occurs X u → ⊥) → Uses Xs u → (D : List Demand) → Every (UsesDemand Xs) D
+puts-demands : (Xs : List ℕ) (X : ℕ) (u : Tree) → (Occurs X u → ⊥) → Uses Xs u → (D : List TreeDemand) → Every (UsesDemand Xs) D
     → Every (UsesDemand (without X Xs)) (map (λ d. (d .0, substitute (replacing X u) (d .1))) D)
 puts-demands Xs X u absent h [] k = tt
 puts-demands Xs X u absent h (d ∷ D) k = (uses-put Xs X u absent h (d .1) (k .0), puts-demands Xs X u absent h D (k .1))
 
-puts-equations : (Xs : List ℕ) (X : ℕ) (u : Tree) → (Occurs X u → ⊥) → Uses Xs u → (E : List Equation) → Every (UsesEquation Xs) E
+puts-equations : (Xs : List ℕ) (X : ℕ) (u : Tree) → (Occurs X u → ⊥) → Uses Xs u → (E : List TreeEquation) → Every (UsesEquation Xs) E
     → Every (UsesEquation (without X Xs)) (map (λ e. (substitute (replacing X u) (e .0), substitute (replacing X u) (e .1))) E)
 puts-equations Xs X u absent h [] k = tt
-puts-equations Xs X u absent h (e ∷ E) k = ((uses-put Xs X u absent h (e .0) (k .0 .0), uses-put Xs X u absent h (e .1) (k .0 .1)), puts-equations Xs X u absent h E (k .1))
+puts-equations Xs X u absent h (e ∷ E) k =
+    ((uses-put Xs X u absent h (e .0) (k .0 .0), uses-put Xs X u absent h (e .1) (k .0 .1)), puts-equations Xs X u absent h E (k .1))
 
 -- "In every =σ⇒-step this measure decreases": there are fewer variables, or no other ones and smaller equational problems.
-abbrev pub Decreases : List ℕ → Problem → Problem → Type 0
+abbrev pub Decreases : List ℕ → TreeProblem → TreeProblem → Type 0
 Decreases Xs P Q = (Covers Xs Q × (sizes (Q .equations) < sizes (P .equations))) ⊎ ((Ys : List ℕ) × (length Ys < length Xs) × Covers Ys Q)
 
 module _ {isProtected : ℕ → Type 0} (Xs : List ℕ) {s t : Tree} where
-  rule-decreases : (σ : Label) {E′ : List Equation} {D′ : List Demand} (E E″ : List Equation) (D : List Demand) → Equational isProtected s t σ E′ D′
+  rule-decreases : (σ : Label) {E′ : List TreeEquation} {D′ : List TreeDemand} (E E″ : List TreeEquation) (D : List TreeDemand)
+      → Equational isProtected s t σ E′ D′
       → Covers Xs (record { demands = D; equations = E ++ (s, t) ∷ E″ })
       → Decreases Xs (record { demands = D; equations = E ++ (s, t) ∷ E″ }) (putInto σ (record { demands = D ++ D′; equations = E ++ (E′ ++ E″) }))
   rule-decreases ε {E′} {D′} E E″ D r c =
       let (e, (h, e″)) = every-append (UsesEquation Xs) E ((s, t) ∷ E″) .0 (c .equations) in
       let (e′, d′) = rule-keeps Xs (h .0) (h .1) r in
       inl (
-        record { demands = every-append (UsesDemand Xs) D D′ .1 (c .demands, d′); equations = every-append (UsesEquation Xs) E (E′ ++ E″) .1 (e, every-append (UsesEquation Xs) E′ E″ .1 (e′, e″)) },
+        record {
+          demands = every-append (UsesDemand Xs) D D′ .1 (c .demands, d′);
+          equations = every-append (UsesEquation Xs) E (E′ ++ E″) .1
+              (e, every-append (UsesEquation Xs) E′ E″ .1 (e′, e″));
+        },
         omega (arith, sizes-append E (E′ ++ E″), sizes-append E′ E″, sizes-append E ((s, t) ∷ E″), rule-shrinks r),
       )
   rule-decreases (X := u) {E′} {D′} E E″ D r c =
@@ -159,43 +170,49 @@ module _ {isProtected : ℕ → Type 0} (Xs : List ℕ) {s t : Tree} where
       by-side {Y} h k (inl o) = h Y o
       by-side {Y} h k (inr o) = k Y o
 
-pub first-decreases : {isProtected : ℕ → Type 0} (Xs : List ℕ) {P Q : Problem} {σ : Label} → First isProtected P σ Q → Covers Xs P → Decreases Xs P Q
+pub first-decreases : {isProtected : ℕ → Type 0} (Xs : List ℕ) {P Q : TreeProblem} {σ : Label} → First isProtected P σ Q → Covers Xs P → Decreases Xs P Q
 first-decreases Xs (first {σ = σ} E E″ D r) c = rule-decreases Xs σ E E″ D r c
 
 -- ---- alike problems have one measure
 
-alike-demands : (Xs : List ℕ) (D F : List Demand) → Each AlikeDemands D F → Every (UsesDemand Xs) D → Every (UsesDemand Xs) F
+alike-demands : (Xs : List ℕ) (D F : List TreeDemand) → Each AlikeDemands D F → Every (UsesDemand Xs) D → Every (UsesDemand Xs) F
 alike-demands Xs [] [] a h = tt
 alike-demands Xs [] (f ∷ F) a h = absurd a
 alike-demands Xs (d ∷ D) [] a h = absurd a
 alike-demands Xs (d ∷ D) (f ∷ F) a h = (λ X o. h .0 X (rw (same-occurs X (a .0 .1)) o), alike-demands Xs D F (a .1) (h .1))
 
-alike-equations : (Xs : List ℕ) (E F : List Equation) → Each AlikeEquations E F → Every (UsesEquation Xs) E → Every (UsesEquation Xs) F
+alike-equations : (Xs : List ℕ) (E F : List TreeEquation) → Each AlikeEquations E F → Every (UsesEquation Xs) E → Every (UsesEquation Xs) F
 alike-equations Xs [] [] a h = tt
 alike-equations Xs [] (f ∷ F) a h = absurd a
 alike-equations Xs (e ∷ E) [] a h = absurd a
 alike-equations Xs (e ∷ E) (f ∷ F) a h =
     ((λ X o. h .0 .0 X (rw (same-occurs X (a .0 .0)) o), λ X o. h .0 .1 X (rw (same-occurs X (a .0 .1)) o)), alike-equations Xs E F (a .1) (h .1))
 
-alike-sizes : (E F : List Equation) → Each AlikeEquations E F → sizes E ≡ sizes F
+alike-sizes : (E F : List TreeEquation) → Each AlikeEquations E F → sizes E ≡ sizes F
 alike-sizes [] [] a = refl
 alike-sizes [] (f ∷ F) a = absurd a
 alike-sizes (e ∷ E) [] a = absurd a
 alike-sizes (e ∷ E) (f ∷ F) a = omega (arith, same-size (a .0 .0), same-size (a .0 .1), alike-sizes E F (a .1))
 
-alike-covers : (Xs : List ℕ) {P Q : Problem} → AlikeProblems P Q → Covers Xs P → Covers Xs Q
-alike-covers Xs {P} {Q} a c = record { demands = alike-demands Xs (P .demands) (Q .demands) (a .demands) (c .demands); equations = alike-equations Xs (P .equations) (Q .equations) (a .equations) (c .equations) }
+alike-covers : (Xs : List ℕ) {P Q : TreeProblem} → AlikeProblems P Q → Covers Xs P → Covers Xs Q
+alike-covers Xs {P} {Q} a c =
+    record {
+      demands = alike-demands Xs (P .demands) (Q .demands) (a .demands) (c .demands);
+      equations = alike-equations Xs (P .equations) (Q .equations)
+          (a .equations) (c .equations);
+    }
 
 -- ---- the end
 
 module _ (isProtected : ℕ → Type 0) where
   abbrev Below : ℕ → Type 0
-  Below n = (Xs : List ℕ) (P : Problem) → length Xs < n → Covers Xs P → Terminates isProtected P
+  Below n = (Xs : List ℕ) (P : TreeProblem) → length Xs < n → Covers Xs P → Terminates isProtected P
 
   abbrev Within : ℕ → ℕ → Type 0
-  Within n m = (Xs : List ℕ) (P : Problem) → length Xs ≤ n → Covers Xs P → sizes (P .equations) < m → Terminates isProtected P
+  Within n m = (Xs : List ℕ) (P : TreeProblem) → length Xs ≤ n → Covers Xs P → sizes (P .equations) < m → Terminates isProtected P
 
-  onward : (n m : ℕ) → Below n → Within n m → (Xs : List ℕ) (P Q R : Problem) → length Xs ≤ n → sizes (P .equations) < suc m → AlikeProblems P Q → Decreases Xs Q R → Terminates isProtected R
+  onward : (n m : ℕ) → Below n → Within n m → (Xs : List ℕ) (P Q R : TreeProblem) → length Xs ≤ n → sizes (P .equations) < suc m → AlikeProblems P Q
+      → Decreases Xs Q R → Terminates isProtected R
   onward n m below within Xs P Q R l h a (inl (c, k)) = within Xs R l c (omega (arith, alike-sizes (P .equations) (Q .equations) (a .equations)))
   onward n m below within Xs P Q R l h a (inr (Ys, k, c)) = below Ys R (omega arith) c
 
@@ -216,11 +233,11 @@ variablesOf (pair s t) = variablesOf s ++ variablesOf t
 variablesOf (application f t) = variablesOf t
 variablesOf (suspension π X) = X ∷ []
 
-abbrev variablesOfDemands : List Demand → List ℕ
+abbrev variablesOfDemands : List TreeDemand → List ℕ
 variablesOfDemands [] = []
 variablesOfDemands (d ∷ D) = variablesOf (d .1) ++ variablesOfDemands D
 
-abbrev variablesOfEquations : List Equation → List ℕ
+abbrev variablesOfEquations : List TreeEquation → List ℕ
 variablesOfEquations [] = []
 variablesOfEquations (e ∷ E) = (variablesOf (e .0) ++ variablesOf (e .1)) ++ variablesOfEquations E
 
@@ -235,37 +252,42 @@ uses-own (suspension π Y) X o = List·Memᴰ·head o
 
 -- A longer list covers as much.
 module _ (Xs Ys : List ℕ) (more : (X : ℕ) → List·Memᴰ X Xs → List·Memᴰ X Ys) where
-  more-demands : (D : List Demand) → Every (UsesDemand Xs) D → Every (UsesDemand Ys) D
+  more-demands : (D : List TreeDemand) → Every (UsesDemand Xs) D → Every (UsesDemand Ys) D
   more-demands D h = every-map (UsesDemand Xs) (UsesDemand Ys) (λ d k X o. more X (k X o)) D h
 
-  more-equations : (E : List Equation) → Every (UsesEquation Xs) E → Every (UsesEquation Ys) E
+  more-equations : (E : List TreeEquation) → Every (UsesEquation Xs) E → Every (UsesEquation Ys) E
   more-equations E h = every-map (UsesEquation Xs) (UsesEquation Ys) (λ e k. (λ X o. more X (k .0 X o), λ X o. more X (k .1 X o))) E h
 
-covers-demands : (D : List Demand) → Every (UsesDemand (variablesOfDemands D)) D
+covers-demands : (D : List TreeDemand) → Every (UsesDemand (variablesOfDemands D)) D
 covers-demands [] = tt
 covers-demands (d ∷ D) = (
   λ X o. Memᴰ·append-left (variablesOfDemands D) (uses-own (d .1) X o),
   more-demands (variablesOfDemands D) (variablesOf (d .1) ++ variablesOfDemands D) (λ X. Memᴰ·append-right (variablesOf (d .1))) D (covers-demands D),
 )
 
-covers-equations : (E : List Equation) → Every (UsesEquation (variablesOfEquations E)) E
+covers-equations : (E : List TreeEquation) → Every (UsesEquation (variablesOfEquations E)) E
 covers-equations [] = tt
 covers-equations (e ∷ E) = (
   (
     λ X o. Memᴰ·append-left (variablesOfEquations E) (Memᴰ·append-left (variablesOf (e .1)) (uses-own (e .0) X o)),
     λ X o. Memᴰ·append-left (variablesOfEquations E) (Memᴰ·append-right (variablesOf (e .0)) (uses-own (e .1) X o)),
   ),
-  more-equations (variablesOfEquations E) ((variablesOf (e .0) ++ variablesOf (e .1)) ++ variablesOfEquations E) (λ X. Memᴰ·append-right (variablesOf (e .0) ++ variablesOf (e .1))) E (covers-equations E),
+  more-equations (variablesOfEquations E) ((variablesOf (e .0) ++ variablesOf (e .1)) ++ variablesOfEquations E)
+      (λ X. Memᴰ·append-right (variablesOf (e .0) ++ variablesOf (e .1))) E (covers-equations E),
 )
 
-pub covers-own : (P : Problem) → Covers (variablesOfDemands (P .demands) ++ variablesOfEquations (P .equations)) P
+pub covers-own : (P : TreeProblem) → Covers (variablesOfDemands (P .demands) ++ variablesOfEquations (P .equations)) P
 covers-own P = record {
-  demands = more-demands (variablesOfDemands (P .demands)) (variablesOfDemands (P .demands) ++ variablesOfEquations (P .equations)) (λ X. Memᴰ·append-left (variablesOfEquations (P .equations))) (P .demands) (covers-demands (P .demands));
-  equations = more-equations (variablesOfEquations (P .equations)) (variablesOfDemands (P .demands) ++ variablesOfEquations (P .equations)) (λ X. Memᴰ·append-right (variablesOfDemands (P .demands))) (P .equations) (covers-equations (P .equations));
+  demands =
+      more-demands (variablesOfDemands (P .demands)) (variablesOfDemands (P .demands) ++ variablesOfEquations (P .equations))
+      (λ X. Memᴰ·append-left (variablesOfEquations (P .equations))) (P .demands) (covers-demands (P .demands));
+  equations =
+      more-equations (variablesOfEquations (P .equations)) (variablesOfDemands (P .demands) ++ variablesOfEquations (P .equations))
+      (λ X. Memᴰ·append-right (variablesOfDemands (P .demands))) (P .equations) (covers-equations (P .equations));
 }
 
 -- 003, lemma 3.2, the first phase: from every problem, whatever is protected.
-pub terminating : (isProtected : ℕ → Type 0) (P : Problem) → Terminates isProtected P
+pub terminating : (isProtected : ℕ → Type 0) (P : TreeProblem) → Terminates isProtected P
 terminating isProtected P =
     let Xs : List ℕ = variablesOfDemands (P .demands) ++ variablesOfEquations (P .equations) in
     by-variables isProtected (suc (length Xs)) Xs P (omega arith) (covers-own P)
@@ -273,15 +295,15 @@ terminating isProtected P =
 -- ---- the second phase
 
 -- "For the =∇⇒-steps the size Σ |t| decreases in every step."
-abbrev pub demandSizes : List Demand → ℕ
+abbrev pub demandSizes : List TreeDemand → ℕ
 demandSizes [] = 0
 demandSizes (d ∷ D) = size (d .1) + demandSizes D
 
-demandSizes-append : (D F : List Demand) → demandSizes (D ++ F) ≡ demandSizes D + demandSizes F
+demandSizes-append : (D F : List TreeDemand) → demandSizes (D ++ F) ≡ demandSizes D + demandSizes F
 demandSizes-append [] F = omega arith
 demandSizes-append (d ∷ D) F = omega (arith, demandSizes-append D F)
 
-freshness-decreases : {a : ℕ} {t : Tree} {∇ : Facts} {D : List Demand} → Freshness a t ∇ D → demandSizes D < size t
+freshness-decreases : {a : ℕ} {t : Tree} {∇ : Facts} {D : List TreeDemand} → Freshness a t ∇ D → demandSizes D < size t
 freshness-decreases #?-unit = omega arith
 freshness-decreases #?-pair = omega arith
 freshness-decreases #?-function-symbol = omega arith
@@ -291,6 +313,6 @@ freshness-decreases (#?-atom n) = omega arith
 freshness-decreases #?-suspension = omega arith
 
 -- So a series of the second phase has no more transformations than that.
-pub second-decreases : {P Q : Problem} {∇ : Facts} → Second P ∇ Q → demandSizes (Q .demands) < demandSizes (P .demands)
+pub second-decreases : {P Q : TreeProblem} {∇ : Facts} → SecondStep P ∇ Q → demandSizes (Q .demands) < demandSizes (P .demands)
 second-decreases (second {a = a} {t = t} {D′ = D′} D D″ E f) =
     omega (arith, demandSizes-append D (D′ ++ D″), demandSizes-append D′ D″, demandSizes-append D ((a, t) ∷ D″), freshness-decreases f)

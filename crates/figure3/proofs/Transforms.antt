@@ -23,7 +23,8 @@ use Rattle.figure3.proofs.Simulation.{meantTree, meantEquations, meantD
 
 module _ (nodes : List Node) (σ : Substitution) where
   put-pending : (n : ℕ) (qs : List (Side × Side)) (es : List Equation)
-      → putEquations nodes σ (pending n qs ++ es) ≡ map (λ q. (substitute σ (sideTree nodes (q .0)), substitute σ (sideTree nodes (q .1)))) qs ++ putEquations nodes σ es
+      → putEquations nodes σ (pending n qs ++ es)
+      ≡ map (λ q. (substitute σ (sideTree nodes (q .0)), substitute σ (sideTree nodes (q .1)))) qs ++ putEquations nodes σ es
   put-pending n [] es = refl
   put-pending n (q ∷ qs) es = ap (_∷_ (substitute σ (sideTree nodes (q .0)), substitute σ (sideTree nodes (q .1)))) (put-pending n qs es)
 
@@ -40,47 +41,57 @@ module _ (nodes : List Node) (σ : Substitution) where
   raised-append (d ∷ ds) fs = ap (_∷_ (d .atom, subjectTree nodes (d .subject))) (raised-append ds fs)
 
   put-raised : (asked : List Asked) (ds : List Demand) (n : ℕ) (d : List (ℕ × Subject))
-      → putAsked σ (asked ++ askedRaised nodes (ds ++ demands n d)) ≡ putAsked σ (asked ++ askedRaised nodes ds) ++ map (λ x. (x .0, substitute σ (subjectTree nodes (x .1)))) d
+      → putAsked σ (asked ++ askedRaised nodes (ds ++ demands n d))
+      ≡ putAsked σ (asked ++ askedRaised nodes ds) ++ map (λ x. (x .0, substitute σ (subjectTree nodes (x .1)))) d
   put-raised asked ds n d =
       ap (λ (l : List Asked). putAsked σ (asked ++ l)) (raised-append ds (demands n d))
       ∙ ap (putAsked σ) (sym (append-assoc asked (askedRaised nodes ds) (askedRaised nodes (demands n d))))
       ∙ put-append (asked ++ askedRaised nodes ds) (askedRaised nodes (demands n d))
-      ∙ ap (λ (l : List Solutions.Demand). putAsked σ (asked ++ askedRaised nodes ds) ++ l) (put-demands n d)
+      ∙ ap (λ (l : List Solutions.TreeDemand). putAsked σ (asked ++ askedRaised nodes ds) ++ l) (put-demands n d)
 
 -- A label put into a state's problem is the next binding put in.
 module _ (σ : Substitution) (X : ℕ) {u w : Tree} (e : Same u w) where
   put-same : (t : Tree) → Same (substitute (replacing X u) (substitute σ t)) (substitute (composed (replacing X w) σ) t)
-  put-same t = same-transitive (same-substitutions (replacing X u) (replacing X w) (same-replacing X e) (substitute σ t)) (same-of (substitute-composed (replacing X w) σ t))
+  put-same t =
+      same-transitive (same-substitutions (replacing X u) (replacing X w) (same-replacing X e) (substitute σ t))
+      (same-of (substitute-composed (replacing X w) σ t))
 
-  put-into-asked : (l : List Asked) → Each AlikeDemands (map (λ d. (d .0, substitute (replacing X u) (d .1))) (putAsked σ l)) (putAsked (composed (replacing X w) σ) l)
+  put-into-asked : (l : List Asked)
+      → Each AlikeDemands (map (λ d. (d .0, substitute (replacing X u) (d .1))) (putAsked σ l)) (putAsked (composed (replacing X w) σ) l)
   put-into-asked [] = tt
   put-into-asked (d ∷ l) = ((refl, put-same (d .1)), put-into-asked l)
 
   put-into-equations : (nodes : List Node) (es : List Equation)
-      → Each AlikeEquations (map (λ q. (substitute (replacing X u) (q .0), substitute (replacing X u) (q .1))) (putEquations nodes σ es)) (putEquations nodes (composed (replacing X w) σ) es)
+      → Each AlikeEquations (map (λ q. (substitute (replacing X u) (q .0), substitute (replacing X u) (q .1))) (putEquations nodes σ es))
+      (putEquations nodes (composed (replacing X w) σ) es)
   put-into-equations nodes [] = tt
   put-into-equations nodes (f ∷ es) = ((put-same (sideTree nodes (f .left)), put-same (sideTree nodes (f .right))), put-into-equations nodes es)
 
 -- ---- one transformation
 
-pub record Transforms (g : Ground) (P P′ : Solutions.Problem) (σ σ′ : Substitution) : Type 0 where
-  pub before : Solutions.Problem
+pub record Transforms (g : Ground) (P P′ : Solutions.TreeProblem) (σ σ′ : Substitution) : Type 0 where
+  pub before : Solutions.TreeProblem
   pub label : Label
-  pub after : Solutions.Problem
+  pub after : Solutions.TreeProblem
   pub alike-before : AlikeProblems P before
   pub transformation : First (Protected g) before label after
   pub alike-after : AlikeProblems after P′
   pub composes : AlikeSubstitutions (composed (substitutionOf label) σ) σ′
 
-module _ (g : Ground) (asked : List Asked) (e : Equation) (es : List Equation) (bs : List Binding) (ds : List Demand) {s t : Tree} (l : Same (meantTree g bs (e .left)) s) (r : Same (meantTree g bs (e .right)) t) where
-  abbrev resolvedProblem : Solutions.Problem
+module _ (g : Ground) (asked : List Asked) (e : Equation) (es : List Equation) (bs : List Binding) (ds : List Demand) {s t : Tree}
+    (l : Same (meantTree g bs (e .left)) s) (r : Same (meantTree g bs (e .right)) t) where
+  abbrev resolvedProblem : Solutions.TreeProblem
   resolvedProblem = record {
     demands = putAsked (meaning (g .nodes) bs) (asked ++ askedRaised (g .nodes) ds);
     equations = (s, t) ∷ putEquations (g .nodes) (meaning (g .nodes) bs) es;
   }
 
   alike-resolved : AlikeProblems (stateProblem g asked (e ∷ es) bs ds) resolvedProblem
-  alike-resolved = record { demands = demands-reflexive (resolvedProblem .demands); equations = ((l, r), equations-reflexive (putEquations (g .nodes) (meaning (g .nodes) bs) es)) }
+  alike-resolved =
+      record {
+        demands = demands-reflexive (resolvedProblem .demands);
+        equations = ((l, r), equations-reflexive (putEquations (g .nodes) (meaning (g .nodes) bs) es));
+      }
 
   simulated : {qs : List (Side × Side)} {b : List (ℕ × Side)} {d : List (ℕ × Subject)} → Simulates g bs s t qs b d
       → Transforms g (stateProblem g asked (e ∷ es) bs ds)
@@ -88,8 +99,8 @@ module _ (g : Ground) (asked : List Asked) (e : Equation) (es : List Equation) (
       (meaning (g .nodes) bs) (meaning (g .nodes) (bs ++ bindings (e .number) b))
   simulated (simplifies {E = E} {D = D} {qs = qs} {d = d} x i j) =
       let σ : Substitution = meaning (g .nodes) bs in
-      let rest : List Solutions.Equation = putEquations (g .nodes) σ es in
-      let D₀ : List Solutions.Demand = putAsked σ (asked ++ askedRaised (g .nodes) ds) in
+      let rest : List Solutions.TreeEquation = putEquations (g .nodes) σ es in
+      let D₀ : List Solutions.TreeDemand = putAsked σ (asked ++ askedRaised (g .nodes) ds) in
       rw (append-nil bs)
       (record {
         before = resolvedProblem;
@@ -99,14 +110,15 @@ module _ (g : Ground) (asked : List Asked) (e : Equation) (es : List Equation) (
         transformation = first [] rest D₀ x;
         alike-after = record {
           demands = rw (put-raised (g .nodes) σ asked ds (e .number) d) (each-append AlikeDemands D₀ D₀ D (meantDemands g bs d) (demands-reflexive D₀) j);
-          equations = rw (put-pending (g .nodes) σ (e .number) qs es) (each-append AlikeEquations E (meantEquations g bs qs) rest rest i (equations-reflexive rest));
+          equations =
+              rw (put-pending (g .nodes) σ (e .number) qs es) (each-append AlikeEquations E (meantEquations g bs qs) rest rest i (equations-reflexive rest));
         };
         composes = λ Y. same-of (substitute-variable (σ Y));
       })
   simulated (binds {X = X} {u = u} {v = v} x i) =
       let σ : Substitution = meaning (g .nodes) bs in
-      let rest : List Solutions.Equation = putEquations (g .nodes) σ es in
-      let D₀ : List Solutions.Demand = putAsked σ (asked ++ askedRaised (g .nodes) ds) in
+      let rest : List Solutions.TreeEquation = putEquations (g .nodes) σ es in
+      let D₀ : List Solutions.TreeDemand = putAsked σ (asked ++ askedRaised (g .nodes) ds) in
       rw (append-nil ds, meaning-more (g .nodes) bs (record { variable = X; value = v; equation = e .number }))
       (record {
         before = resolvedProblem;
@@ -124,12 +136,14 @@ module _ (g : Ground) (asked : List Asked) (e : Equation) (es : List Equation) (
         composes = λ Y. same-substitutions (replacing X u) (replacing X (meantTree g bs v)) (same-replacing X i) (σ Y);
       })
 
-pub transforms : (g : Ground) (variables : ℕ) (named : (n : ℕ) → Named (g .atoms) variables n (formAt (g .nodes) n)) (asked : List Asked) (e : Equation) (es : List Equation) (bs : List Binding)
+pub transforms : (g : Ground) (variables : ℕ) (named : (n : ℕ) → Named (g .atoms) variables n (formAt (g .nodes) n)) (asked : List Asked) (e : Equation)
+    (es : List Equation) (bs : List Binding)
     (ds : List Demand) (qs : List (Side × Side)) (b : List (ℕ × Side)) (d : List (ℕ × Subject))
     → State g variables named (e ∷ es) bs ds → step g bs (e .left) (e .right) ≡ goes-on qs b d
     → Transforms g (stateProblem g asked (e ∷ es) bs ds)
     (stateProblem g asked (pending (e .number) qs ++ es) (bs ++ bindings (e .number) b) (ds ++ demands (e .number) d))
     (meaning (g .nodes) bs) (meaning (g .nodes) (bs ++ bindings (e .number) b))
 transforms g variables named asked e es bs ds qs b d s q =
-    let k : Stepped g bs (e .left) (e .right) (goes-on qs b d) = rw q at (step-as g variables named (s .meant) (e .left) (e .right) (s .waiting .0 .0) (s .waiting .0 .1)) in
+    let k : Stepped g bs (e .left) (e .right) (goes-on qs b d) =
+    rw q at (step-as g variables named (s .meant) (e .left) (e .right) (s .waiting .0 .0) (s .waiting .0 .1)) in
     simulated g asked e es bs ds (k .same-left) (k .same-right) (k .done-as)

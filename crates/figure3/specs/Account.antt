@@ -6,7 +6,7 @@ use Rattle.nominal.specs.Solutions.{Facts}
 use Rattle.problem.specs.Problem.{Problem}
 use Rattle.run.specs.Meaning.{Binding, Fact}
 use Rattle.run.specs.Run.{Demand, Refusal, groundOf}
-use Rattle.run.specs.Answer.{Verdict, accepted, refusal, numberOf}
+use Rattle.run.specs.Answer.{Verdict, accepted, refusal, refusalNumber}
 use Rattle.solutions.specs.Promises.{asked}
 use Rattle.figure3.specs.Figure3.{SecondPhase, emptyProblem, Fails}
 use Rattle.figure3.specs.Ran.{stateProblem, Reached, Top, StuckAt}
@@ -19,10 +19,14 @@ pub data Account (p : Problem) : Verdict → Type 0 where
   -- 8: all steps are taken, and an equational problem is left.
   at-limit : {place : ℕ} → Top (groundOf p) (asked p .demands) (asked p) (p .limit) place → Account p (refusal 8 place)
   -- 9, 10, 11: after fewer steps stands an equational problem for which there is no transformation.
-  stuck : {place : ℕ} (r : Refusal) (n : ℕ) → n < p .limit → (s : Top (groundOf p) (asked p .demands) (asked p) n place) → StuckAt r s → Account p (refusal (numberOf r) place)
+  stuck : {place : ℕ} (r : Refusal) (n : ℕ) → n < p .limit → (s : Top (groundOf p) (asked p .demands) (asked p) n place) → StuckAt r s
+      → Account p (refusal (refusalNumber r) place)
   -- 12: "If this does not result in the empty problem, then it halts signalling failure".
-  not-fresh : (n : ℕ) (bs : List Binding) (ds : List Demand) → Over p n bs ds → Fails (stateProblem (groundOf p) (asked p .demands) [] bs ds) → Account p (refusal 12 0)
+  not-fresh : (n : ℕ) (bs : List Binding) (ds : List Demand) → Over p n bs ds → Fails (stateProblem (groundOf p) (asked p .demands) [] bs ds)
+      → Account p (refusal 12 0)
   -- 0: "otherwise overall it has constructed a transformation sequence of the form (12) .. and the algorithm returns the solution (∇₁ ∪ .. ∪ ∇ₘ, σₙ ∘
-  -- .. ∘ σ₁)". The steps of the answer are the transformations of the first phase, its bindings mean the composed labels, its facts are the labels of the second.
+  -- .. ∘ σ₁)". The steps of the answer are the transformations of the first phase, its bindings mean the composed labels, its facts are the labels of the
+  -- second.
   solved : {steps : ℕ} {bs : List Binding} {fs : List Fact} (ds : List Demand) (∇ : Facts) → Over p steps bs ds
-      → SecondPhase (stateProblem (groundOf p) (asked p .demands) [] bs ds) ∇ emptyProblem → ((f : Fact) → List·Memᴰ f ∇ ↔ List·Memᴰ f fs) → Account p (accepted steps bs fs)
+      → SecondPhase (stateProblem (groundOf p) (asked p .demands) [] bs ds) ∇ emptyProblem → ((f : Fact) → List·Memᴰ f ∇ ↔ List·Memᴰ f fs)
+      → Account p (accepted steps bs fs)

@@ -23,12 +23,10 @@ module _ (nodes : List Node) where
   asked-variable a X = (refl, refl)
 
   -- "a is demanded fresh for t": of the side's node the atom that its images send to a.
-  pub asked-side : {atoms : ℕ} (a : ℕ) (s : Side) → Permuting atoms (s .images) → AskedAs nodes (a, sideTree nodes s) (of-node (image (inverted (s .images)) a) (s .node))
+  pub asked-side : {atoms : ℕ} (a : ℕ) (s : Side) → Permuting atoms (s .images)
+      → AskedAs nodes (a, sideTree nodes s) (of-node (image (inverted (s .images)) a) (s .node))
   unfolding sideTree
   asked-side a s p = (swapsOf (s .images), refl, sym (act-back p a))
-
-  pub asks-none : Asks nodes [] (λ w. ⊥)
-  asks-none = record { all = λ d i. absurd (elim i [ ]); only = λ w s. absurd s }
 
   pub asks-append : {ds es : List Asked} {S T : Pair → Type 0} → Asks nodes ds S → Asks nodes es T → Asks nodes (ds ++ es) (λ w. S w ⊎ T w)
   asks-append {ds} {es} {S} {T} s t = record {

@@ -1,6 +1,10 @@
 pub mod Right
 pub mod Asked
 pub mod Sent
+pub mod Rows
 pub mod Growth
+pub mod Beginning
 pub mod Closing
+pub mod Waiting
+pub mod Clashes
 pub mod Tables

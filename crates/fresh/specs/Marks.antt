@@ -4,35 +4,42 @@ use Prim.Native.Nat.{ℕ, _≤_, _<_, _^_}
 use mathlib.Core.Path.{_≡_}
 use mathlib.Core.Logic.{_⊎_}
 use mathlib.Core.Bool.{Bool, true, false, cond}
-use mathlib.Core.List.{List}
+use mathlib.Core.List.{List, []}
 use mathlib.Core.Option.{Option, none, some}
 use lib.ListN.{length, getD, set}
 use Rattle.sets.specs.Bits.{member, union, difference, setOf}
 use Rattle.permutation.specs.Table.{image, Permutes}
-use Rattle.rows.specs.Rows.{row}
 use Rattle.problem.specs.Problem.{Node, unit-form, atom-form, abstraction-form, pair-form, application-form, suspension-form, formAt, Problem}
-use Rattle.problem.specs.Readable.{Readable}
-use Rattle.problem.specs.Held.{problemOf}
-use Rattle.problem.specs.Look.{NodeStands}
 use Rattle.run.specs.Meaning.{Side}
+use Rattle.bindings.specs.Bindings.{nodeOf, imagesOf, NodesThere}
+use Rattle.demands.specs.Demands.{onNodes, onVariables}
 use Rattle.fresh.specs.Pairs.{Pair, of-node, of-variable, Reached, Closed}
 
--- What visiting leans on: the input is within the limits with every name there, and each node's field stands where the table says.
-pub record Standing (s places : List ℕ) : Type 0 where
-  pub readable : Readable (problemOf s)
-  pub nodes : (n : ℕ) → n < length (problemOf s .nodes) → NodeStands s places n
+-- The lent table of marks: by node the atoms that were seen there, and by variable those that were passed on to its value.
+abbrev pub seenIn : List (List ℕ) → List ℕ
+seenIn marks = getD marks 0 []
 
--- The pairs that two tables of sets have, in the rows that the problem uses: all other rows may hold anything.
+abbrev pub doneIn : List (List ℕ) → List ℕ
+doneIn marks = getD marks 1 []
+
+-- The pairs that two columns of sets have, in the rows that the problem uses: all other rows may hold anything.
 abbrev pub Marked : Problem → List ℕ → List ℕ → Pair → Type 0
 Marked p nodes variables (of-node a n) = (n < length (p .nodes)) × (member (getD nodes n 0) a ≡ true)
 Marked p nodes variables (of-variable a X) = (X < p .variables) × (member (getD variables X 0) a ≡ true)
+
+-- What the table of demands asks, as pairs; and what resolving has marked so far: at nodes what was seen there, at variables what is asked of them.
+abbrev pub Demanded : Problem → List (List ℕ) → Pair → Type 0
+Demanded p asked = Marked p (onNodes asked) (onVariables asked)
+
+abbrev pub SoFar : Problem → List (List ℕ) → List (List ℕ) → Pair → Type 0
+SoFar p asked marks = Marked p (seenIn marks) (onVariables asked)
 
 -- The atoms of a set, each with one node.
 abbrev pub Only : ℕ → ℕ → Pair → Type 0
 Only atoms n (of-node a m) = (m ≡ n) × (member atoms a ≡ true)
 Only atoms n (of-variable a X) = ⊥
 
--- The table with more atoms in row i.
+-- A column with more atoms in row i.
 unfoldable pub added : List ℕ → ℕ → ℕ → List ℕ
 added t i more = set t i (union (getD t i 0) more)
 
@@ -67,16 +74,19 @@ pub record Finished (nodes : List Node) (value : ℕ → Option Side) (Before Af
   pub from : (w : Pair) → After w → Reached nodes value Before w
   pub closed : (w : Pair) → After w → Closed nodes value After w
 
--- The value of a bound variable, as the tables have it: by variable the value's node and its images.
-abbrev pub valueAt : ℕ → ℕ → List ℕ → List ℕ → ℕ → Option Side
-valueAt atoms bound roots images X = cond (member bound X) (some (record { images = row atoms X images; node = getD roots X 0 })) none
+-- The value of a variable, as the bindings' tables have it, with A atoms in use: of a bound one.
+abbrev pub valued : ℕ → List (List ℕ) → List (List ℕ) → ℕ → Side
+valued A made values X = record { images = imagesOf A values X; node = nodeOf made X }
+
+abbrev pub valueAt : ℕ → ℕ → List (List ℕ) → List (List ℕ) → ℕ → Option Side
+valueAt A bound made values X = cond (member bound X) (some (valued A made values X)) none
 
 -- Bound variables are there, and their values are sides.
-pub record Bound (p : Problem) (bound : ℕ) (roots images : List ℕ) : Type 0 where
+pub record Bound (p : Problem) (bound : ℕ) (made values : List (List ℕ)) : Type 0 where
   pub few : (X : ℕ) → member bound X ≡ true → X < p .variables
-  pub root : (X : ℕ) → member bound X ≡ true → getD roots X 0 < length (p .nodes)
-  pub long : (X : ℕ) → member bound X ≡ true → length (row (p .atoms) X images) ≡ p .atoms
-  pub permutes : (X : ℕ) → member bound X ≡ true → Permutes (row (p .atoms) X images)
+  pub nodes : NodesThere (length (p .nodes)) made bound
+  pub long : (X : ℕ) → member bound X ≡ true → length (imagesOf (p .atoms) values X) ≡ p .atoms
+  pub permutes : (X : ℕ) → member bound X ≡ true → Permutes (imagesOf (p .atoms) values X)
 
 -- The atom of a pair.
 abbrev pub atomOf : Pair → ℕ
@@ -87,25 +97,33 @@ atomOf (of-variable a X) = a
 unfoldable pub newAt : List ℕ → List ℕ → ℕ → ℕ
 newAt asked done X = difference (getD asked X 0) (getD done X 0)
 
--- The first bound variable that has such atoms, of those from one number up to another; that one, if there is none.
+-- Whether a variable is bound and has such atoms.
+pub record Waits (bound : ℕ) (asked done : List ℕ) (X : ℕ) (r : Bool) : Type 0 where
+  pub found : r ≡ true → (member bound X ≡ true) × (0 < newAt asked done X)
+  pub none : r ≡ false → member bound X ≡ true → newAt asked done X ≡ 0
+
+-- The first variable that waits so, of those from one up to another; that other one, if there is none.
 pub record NextBetween (bound : ℕ) (asked done : List ℕ) (least most r : ℕ) : Type 0 where
   pub within : r ≤ most
   pub found : r < most → (member bound r ≡ true) × (0 < newAt asked done r)
   pub none : r ≡ most → (X : ℕ) → least ≤ X → X < most → member bound X ≡ true → newAt asked done X ≡ 0
 
--- A bound variable that has such atoms; as many as there are variables, if there is none.
+-- A variable that waits so; the number after the last variable, if there is none.
 pub record Next (bound : ℕ) (asked done : List ℕ) (variables r : ℕ) : Type 0 where
   pub most : r ≤ variables
   pub found : r < variables → (member bound r ≡ true) × (0 < newAt asked done r)
   pub none : r ≡ variables → (X : ℕ) → X < variables → member bound X ≡ true → newAt asked done X ≡ 0
 
--- A bound variable's new atoms were passed on to its value: each as the atom that the value's images send to it.
-pub record Passed (p : Problem) (roots images : List ℕ) (X : ℕ) (asked done after : List ℕ) (Before After : Pair → Type 0) : Type 0 where
-  pub there : X < length done
-  pub recorded : after ≡ added done X (newAt asked done X)
-  pub more : getD done X 0 < getD after X 0
-  pub small : getD after X 0 < 2 ^ 32
-  pub visited : Visited (p .nodes) (sentInto (p .atoms) (image (row (p .atoms) X images)) (newAt asked done X)) (getD roots X 0) Before After
+-- A bound variable's new atoms were passed on to its value, each as the atom that the value's images send to it: the demands and the marks before and
+-- after. What is demanded of nodes stays.
+pub record Passed (p : Problem) (made values : List (List ℕ)) (X : ℕ) (asked marks asked′ marks′ : List (List ℕ)) : Type 0 where
+  pub there : X < length (doneIn marks)
+  pub recorded : doneIn marks′ ≡ added (doneIn marks) X (newAt (onVariables asked) (doneIn marks) X)
+  pub more : getD (doneIn marks) X 0 < getD (doneIn marks′) X 0
+  pub small : getD (doneIn marks′) X 0 < 2 ^ 32
+  pub visited : Visited (p .nodes) (sentInto (p .atoms) (image (imagesOf (p .atoms) values X)) (newAt (onVariables asked) (doneIn marks) X))
+      (nodeOf made X) (SoFar p asked marks) (SoFar p asked′ marks′)
+  pub kept : onNodes asked′ ≡ onNodes asked
 
 -- Whether a node is an atom that is in a set.
 abbrev pub clashAt : Node → ℕ → Bool

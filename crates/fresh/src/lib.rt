@@ -3,26 +3,41 @@
 // and no pair of atom and node is looked at twice. Whether a demand fails is read off the marks in the end.
 
 ghost use mathlib.Core.Path.{_≡_};
-ghost use mathlib.Core.Bool.{true, false, _&&_, not};
-ghost use lib.Dec.{eqb};
-ghost use Prim.Native.Nat.{ℕ, _≤_, _<_};
+ghost use mathlib.Core.Bool.{true, false};
+ghost use Prim.Native.Nat.{ℕ, _≤_, _<_, _^_};
 ghost use lib.ListN.{length, getD};
 ghost use Rattle.permutation.specs.Swaps.{Within, swapsIn, act, swapped};
 ghost use Rattle.permutation.specs.Table.{image};
-ghost use Rattle.permutation.specs.Store.{table};
 ghost use Rattle.problem.specs.Held.{problemOf};
-ghost use Rattle.problem.specs.Look.{NodeStands, Suspended, formNow, swapsOf};
+ghost use Rattle.problem.specs.Look.{Standing, NodeStands, Suspended, formNow, ownSwaps};
 ghost use Rattle.sets.specs.Bits.{member};
+ghost use Rattle.bindings.specs.Bindings.{nodeOf, imagesOf};
+ghost use Rattle.demands.specs.Demands.{onNodes, onVariables};
 ghost use Rattle.fresh.specs.Pairs.{Pair, Resolved};
-ghost use Rattle.fresh.specs.Marks.{Standing, Marked, added, sentInto, Visited, Begun, Finished, Looked, valueAt, Bound, atomOf, newAt, NextBetween, Next, Passed, clashAt, Clashed};
+ghost use Rattle.fresh.specs.Marks.{seenIn, doneIn, Marked, Demanded, SoFar, added, sentInto, Visited, Begun, Finished, Looked};
+ghost use Rattle.fresh.specs.Marks.{valueAt, Bound, atomOf, newAt, Waits, NextBetween, Next, Passed, clashAt, Clashed};
+use bindings::Made;
+use bindings::Values;
+use demands::Asked;
+use demands::Sets;
 use names::Atom;
 use names::NodeId;
 use names::Variable;
-use permutation::Permutation;
 use problem::Form;
+use problem::Places;
 use problem::look;
 use sets::AtomSet;
 use sets::VariableSet;
+
+// Two columns: by node the atoms that were seen there, and by variable those that were passed on to its value.
+pub type Marks = [Sets; 2];
+
+pub const EMPTY_MARKS: Marks = [[0; 512]; 2];
+
+// The column of what was seen, and that of what was passed on.
+const SEEN: usize = 0;
+
+const DONE: usize = 1;
 
 // The set in row i.
 fn atoms_at(rows: &[u32], i: usize) -> AtomSet
@@ -98,16 +113,16 @@ fn through_swaps(swaps: &[u8], atoms: AtomSet) -> AtomSet
     r
 }
 
-// The atoms that a value's images send into the set.
-fn through_images(p: Permutation, n: usize, atoms: AtomSet) -> AtomSet
-    requires { ⌜ n ≤ 32 ⌝ }
-    ensures { λ r. ⌜ r .0 ≡ sentInto n (image (table n p)) (atoms .0) ⌝ }
+// The atoms that a variable's value sends into the set from outside: its images are read where they lie.
+fn through_images(values: &Values, n: usize, x: Variable, atoms: AtomSet) -> AtomSet
+    requires { ⌜ (n ≤ 32) × (x .0 < 64) ⌝ }
+    ensures { λ r. ⌜ r .0 ≡ sentInto n (image (imagesOf n (now (values .entry)) (x .0))) (atoms .0) ⌝ }
 {
     let mut r = AtomSet::empty();
     let mut i: usize = 0;
     while i < n {
         let a = Atom(i as u8);
-        let b = permutation::image(p, n, a);
+        let b = bindings::image_of(values, n, x, a);
         if atoms.has(b) {
             r = r.with(a);
         }
@@ -119,18 +134,20 @@ fn through_images(p: Permutation, n: usize, atoms: AtomSet) -> AtomSet
 // The atoms are asked of a suspension's variable: each as the atom that the suspension's own swaps send to it.
 fn ask(
     s: &[u8],
-    places: &[u16; 512],
+    places: &Places,
     node: NodeId,
     x: Variable,
     atoms: AtomSet,
-    asked_variables: &mut [u32],
+    on_variables: &mut [u32],
 )
-    requires { ⌜ NodeStands (now s) (now places) (node .0) × Suspended (formNow (now s) (node .0)) × Within 32 (swapsOf (formNow (now s) (node .0))) × (x .0 < length (now «asked_variables»)) ⌝ }
-    ensures { λ r. ⌜ now («asked_variables» .exit) ≡ added (now («asked_variables» .entry)) (x .0) (sentInto 32 (act (swapsOf (formNow (now (s .entry)) (node .0)))) (atoms .0)) ⌝ }
+    requires { ⌜ NodeStands (now s) (now places) (node .0) × Suspended (formNow (now s) (node .0))
+        × Within 32 (ownSwaps (formNow (now s) (node .0))) × (x .0 < length (now «on_variables»)) ⌝ }
+    ensures { λ r. ⌜ now («on_variables» .exit)
+        ≡ added (now («on_variables» .entry)) (x .0) (sentInto 32 (act (ownSwaps (formNow (now (s .entry)) (node .0)))) (atoms .0)) ⌝ }
 {
     let swaps = look::swaps_of(s, places, node);
     let sent = through_swaps(swaps, atoms);
-    add_atoms(asked_variables, x.0 as usize, sent);
+    add_atoms(on_variables, x.0 as usize, sent);
 }
 
 // "Freshness is judged part by part, a compound term by its parts": marks the atoms at the node and what 003's rules lead to within its parts. Atoms
@@ -139,14 +156,16 @@ fn ask(
 // nothing new.
 pub fn visit(
     s: &[u8],
-    places: &[u16; 512],
+    places: &Places,
     atoms: AtomSet,
     node: NodeId,
-    seen: &mut [u32; 512],
-    asked_variables: &mut [u32; 64],
+    seen: &mut Sets,
+    on_variables: &mut Sets,
 )
     requires { ⌜ Standing (now s) (now places) × (node .0 < length (problemOf (now s) .nodes)) ⌝ }
-    ensures { λ r. ⌜ Visited (problemOf (now (s .entry)) .nodes) (atoms .0) (node .0) (Marked (problemOf (now (s .entry))) (now (seen .entry)) (now («asked_variables» .entry))) (Marked (problemOf (now (s .entry))) (now (seen .exit)) (now («asked_variables» .exit))) ⌝ }
+    ensures { λ r. ⌜ Visited (problemOf (now (s .entry)) .nodes) (atoms .0) (node .0)
+        (Marked (problemOf (now (s .entry))) (now (seen .entry)) (now («on_variables» .entry)))
+        (Marked (problemOf (now (s .entry))) (now (seen .exit)) (now («on_variables» .exit))) ⌝ }
 {
     let mut more = atoms;
     let mut at = node;
@@ -174,11 +193,11 @@ pub fn visit(
                     continue;
                 }
                 if l.0 < r.0 {
-                    visit(s, places, new, l, seen, asked_variables);
+                    visit(s, places, new, l, seen, on_variables);
                     continue;
                 }
                 at = l;
-                visit(s, places, new, r, seen, asked_variables);
+                visit(s, places, new, r, seen, on_variables);
                 continue;
             }
             Form::Application(f, m) => {
@@ -187,177 +206,185 @@ pub fn visit(
                 continue;
             }
             Form::Suspension(x) => {
-                ask(s, places, at, x, new, asked_variables);
+                ask(s, places, at, x, new, on_variables);
                 return;
             }
         }
     }
 }
 
-// Whether a variable is bound and has atoms not yet passed on.
-fn waits(bound: VariableSet, asked_variables: &[u32], done: &[u32], x: usize) -> bool
-    requires { ⌜ (x < 64) × (x < length (now «asked_variables»)) × (x < length (now done)) ⌝ }
-    ensures { λ r. ⌜ r ≡ (member (bound .0) x && not (eqb (newAt (now («asked_variables» .entry)) (now (done .entry)) x) 0)) ⌝ }
+// The atoms that were asked of a variable and not yet passed on; those that were are a word, as their table's type says. The tables are lent as slices: so
+// their lengths are known where it is called.
+fn new_at(asked: &[Sets], marks: &[Sets], x: Variable) -> AtomSet
+    requires { ⌜ (1 < length (now asked)) × (1 < length (now marks)) × (x .0 < 64) ⌝ }
+    ensures new { λ r. ⌜ r .0 ≡ newAt (onVariables (now (asked .entry))) (doneIn (now (marks .entry))) (x .0) ⌝ }
+    ensures word { λ r. ⌜ getD (doneIn (now (marks .entry))) (x .0) 0 < 2 ^ 32 ⌝ }
 {
-    if bound.has(Variable(x as u8)) {
-        let new = atoms_at(asked_variables, x).minus(atoms_at(done, x));
+    let i = x.0 as usize;
+    atoms_at(&asked[demands::VARIABLES], i).minus(atoms_at(&marks[DONE], i))
+}
+
+// Whether a variable is bound and has such atoms.
+fn waits(bound: VariableSet, asked: &Asked, marks: &Marks, x: Variable) -> bool
+    requires { ⌜ x .0 < 64 ⌝ }
+    ensures { λ r. ⌜ Waits (bound .0) (onVariables (now (asked .entry))) (doneIn (now (marks .entry))) (x .0) r ⌝ }
+{
+    if bound.has(x) {
+        let new = new_at(asked, marks, x);
         return !new.is_empty();
     }
     false
 }
 
-// The first variable that waits, of those from one number up to another.
+// The first variable that waits, of those from one up to another.
 fn next_between(
     bound: VariableSet,
-    asked_variables: &[u32; 64],
-    done: &[u32; 64],
-    from: usize,
-    to: usize,
-) -> usize
-    requires { ⌜ (from ≤ to) × (to ≤ 64) ⌝ }
-    ensures { λ r. ⌜ NextBetween (bound .0) (now («asked_variables» .entry)) (now (done .entry)) from to r ⌝ }
+    asked: &Asked,
+    marks: &Marks,
+    from: Variable,
+    to: Variable,
+) -> Variable
+    requires { ⌜ (from .0 ≤ to .0) × (to .0 ≤ 64) ⌝ }
+    ensures { λ r. ⌜ NextBetween (bound .0) (onVariables (now (asked .entry))) (doneIn (now (marks .entry))) (from .0) (to .0) (r .0) ⌝ }
 {
     let mut x = from;
-    while x < to {
-        if waits(bound, asked_variables, done, x) {
+    while x.0 < to.0 {
+        if waits(bound, asked, marks, x) {
             return x;
         }
-        x += 1;
+        x = Variable(x.0 + 1);
     }
     x
 }
 
-// A variable that waits: the first from a number on, or else the first before it. Going round like this, a turn of `close` does not pass again all that
-// were found to wait no more.
-fn next(
-    bound: VariableSet,
-    asked_variables: &[u32; 64],
-    done: &[u32; 64],
-    from: usize,
-    variables: usize,
-) -> usize
-    requires { ⌜ (from ≤ variables) × (variables ≤ 64) ⌝ }
-    ensures { λ r. ⌜ Next (bound .0) (now («asked_variables» .entry)) (now (done .entry)) variables r ⌝ }
+// A variable that waits: the first from one on, or else the first before it. Going round like this, a turn of `close` does not pass again all that
+// were found to wait no more. Past the last variable stands `end`.
+fn next(bound: VariableSet, asked: &Asked, marks: &Marks, from: Variable, end: Variable) -> Variable
+    requires { ⌜ (from .0 ≤ end .0) × (end .0 ≤ 64) ⌝ }
+    ensures { λ r. ⌜ Next (bound .0) (onVariables (now (asked .entry))) (doneIn (now (marks .entry))) (end .0) (r .0) ⌝ }
 {
-    let x = next_between(bound, asked_variables, done, from, variables);
-    if x < variables {
+    let x = next_between(bound, asked, marks, from, end);
+    if x.0 < end.0 {
         return x;
     }
-    let y = next_between(bound, asked_variables, done, 0, from);
-    if y < from {
+    let y = next_between(bound, asked, marks, Variable(0), from);
+    if y.0 < from.0 {
         return y;
     }
-    variables
+    end
 }
 
 // Passes a bound variable's new atoms on to its value.
 fn pass_on(
     s: &[u8],
-    places: &[u16; 512],
+    places: &Places,
+    made: &Made,
+    values: &Values,
+    asked: &mut Asked,
+    marks: &mut Marks,
     atoms: usize,
-    roots: &[u16; 64],
-    value_images: &[u8; 2048],
-    x: usize,
-    seen: &mut [u32; 512],
-    asked_variables: &mut [u32; 64],
-    done: &mut [u32; 64],
+    x: Variable,
 )
-    requires { ⌜ Standing (now s) (now places) × (atoms ≡ problemOf (now s) .atoms) × (x < 64) × (getD (now roots) x 0 < length (problemOf (now s) .nodes)) × (0 < newAt (now «asked_variables») (now done) x) ⌝ }
-    ensures { λ r. ⌜ Passed (problemOf (now (s .entry))) (now (roots .entry)) (now («value_images» .entry)) x (now («asked_variables» .entry)) (now (done .entry)) (now (done .exit)) (Marked (problemOf (now (s .entry))) (now (seen .entry)) (now («asked_variables» .entry))) (Marked (problemOf (now (s .entry))) (now (seen .exit)) (now («asked_variables» .exit))) ⌝ }
+    requires held { ⌜ Standing (now s) (now places) × (atoms ≡ problemOf (now s) .atoms) ⌝ }
+    requires there { ⌜ (x .0 < 64) × (nodeOf (now made) (x .0) < length (problemOf (now s) .nodes)) ⌝ }
+    requires waits { ⌜ 0 < newAt (onVariables (now asked)) (doneIn (now marks)) (x .0) ⌝ }
+    ensures { λ r. ⌜ Passed (problemOf (now (s .entry))) (now (made .entry)) (now (values .entry)) (x .0)
+        (now (asked .entry)) (now (marks .entry)) (now (asked .exit)) (now (marks .exit)) ⌝ }
 {
-    let new = atoms_at(asked_variables, x).minus(atoms_at(done, x));
-    add_atoms(done, x, new);
-    let images = rows::load(value_images, x, atoms);
-    let sent = through_images(images, atoms, new);
-    let root = NodeId(rows::number(roots, x));
-    visit(s, places, sent, root, seen, asked_variables);
+    let new = new_at(asked, marks, x);
+    add_atoms(&mut marks[DONE], x.0 as usize, new);
+    let sent = through_images(values, atoms, x, new);
+    let node = bindings::node_of(made, x);
+    visit(
+        s,
+        places,
+        sent,
+        node,
+        &mut marks[SEEN],
+        &mut asked[demands::VARIABLES],
+    );
 }
 
 // Passes on all that waits.
 fn close(
     s: &[u8],
-    places: &[u16; 512],
+    places: &Places,
+    bound: VariableSet,
+    made: &Made,
+    values: &Values,
+    asked: &mut Asked,
+    marks: &mut Marks,
     atoms: usize,
     variables: usize,
-    bound: VariableSet,
-    roots: &[u16; 64],
-    value_images: &[u8; 2048],
-    seen: &mut [u32; 512],
-    asked_variables: &mut [u32; 64],
-    done: &mut [u32; 64],
 )
-    requires held { ⌜ Standing (now s) (now places) × (atoms ≡ problemOf (now s) .atoms) × (variables ≡ problemOf (now s) .variables) × Bound (problemOf (now s)) (bound .0) (now roots) (now «value_images») ⌝ }
-    requires none { ⌜ ((i : ℕ) → i < variables → getD (now done) i 0 ≡ 0) ⌝ }
-    requires looked { ⌜ ((w : Pair) → Marked (problemOf (now s)) (now seen) (now «asked_variables») w → Looked (problemOf (now s) .nodes) (valueAt (problemOf (now s) .atoms) (bound .0) (now roots) (now «value_images»)) (Marked (problemOf (now s)) (now seen) (now «asked_variables»)) w) ⌝ }
-    requires small { ⌜ ((w : Pair) → Marked (problemOf (now s)) (now seen) (now «asked_variables») w → atomOf w < problemOf (now s) .atoms) ⌝ }
-    ensures { λ r. ⌜ Finished (problemOf (now (s .entry)) .nodes) (valueAt (problemOf (now (s .entry)) .atoms) (bound .0) (now (roots .entry)) (now («value_images» .entry))) (Marked (problemOf (now (s .entry))) (now (seen .entry)) (now («asked_variables» .entry))) (Marked (problemOf (now (s .entry))) (now (seen .exit)) (now («asked_variables» .exit))) ⌝ }
+    requires held { ⌜ Standing (now s) (now places) × Bound (problemOf (now s)) (bound .0) (now made) (now values) ⌝ }
+    requires sizes { ⌜ (atoms ≡ problemOf (now s) .atoms) × (variables ≡ problemOf (now s) .variables) ⌝ }
+    requires none { ⌜ ((i : ℕ) → i < variables → getD (doneIn (now marks)) i 0 ≡ 0) ⌝ }
+    requires looked { ⌜ ((w : Pair) → SoFar (problemOf (now s)) (now asked) (now marks) w
+        → Looked (problemOf (now s) .nodes) (valueAt (problemOf (now s) .atoms) (bound .0) (now made) (now values))
+        (SoFar (problemOf (now s)) (now asked) (now marks)) w) ⌝ }
+    requires small { ⌜ ((w : Pair) → SoFar (problemOf (now s)) (now asked) (now marks) w → atomOf w < problemOf (now s) .atoms) ⌝ }
+    ensures finished { λ r. ⌜ Finished (problemOf (now (s .entry)) .nodes)
+        (valueAt (problemOf (now (s .entry)) .atoms) (bound .0) (now (made .entry)) (now (values .entry)))
+        (SoFar (problemOf (now (s .entry))) (now (asked .entry)) (now (marks .entry)))
+        (SoFar (problemOf (now (s .entry))) (now (asked .exit)) (now (marks .exit))) ⌝ }
+    ensures kept { λ r. ⌜ onNodes (now (asked .exit)) ≡ onNodes (now (asked .entry)) ⌝ }
 {
-    let mut x: usize = 0;
+    let end = Variable(variables as u8);
+    let mut x = Variable(0);
     loop {
-        x = next(bound, asked_variables, done, x, variables);
-        if x == variables {
+        x = next(bound, asked, marks, x, end);
+        if x.0 == end.0 {
             break;
         }
-        pass_on(
-            s,
-            places,
-            atoms,
-            roots,
-            value_images,
-            x,
-            seen,
-            asked_variables,
-            done,
-        );
+        pass_on(s, places, made, values, asked, marks, atoms, x);
     }
 }
 
+// The atoms demanded of a node. The table is lent as a slice: so its length is known where it is called.
+fn demanded_of(asked: &[Sets], node: NodeId) -> AtomSet
+    requires { ⌜ (1 < length (now asked)) × (node .0 < 512) ⌝ }
+    ensures { λ r. ⌜ r .0 ≡ getD (onNodes (now (asked .entry))) (node .0) 0 ⌝ }
+{
+    atoms_at(&asked[demands::NODES], node.0 as usize)
+}
+
 // Visits each node of which atoms are demanded.
-fn visit_demanded(
-    s: &[u8],
-    places: &[u16; 512],
-    nodes: usize,
-    asked_nodes: &[u32; 512],
-    seen: &mut [u32; 512],
-    asked_variables: &mut [u32; 64],
-)
+fn visit_demanded(s: &[u8], places: &Places, asked: &mut Asked, seen: &mut Sets, nodes: usize)
     requires held { ⌜ Standing (now s) (now places) × (nodes ≡ length (problemOf (now s) .nodes)) ⌝ }
     requires none { ⌜ ((i : ℕ) → i < nodes → getD (now seen) i 0 ≡ 0) ⌝ }
-    ensures { λ r. ⌜ Begun (problemOf (now (s .entry)) .nodes) (Marked (problemOf (now (s .entry))) (now («asked_nodes» .entry)) (now («asked_variables» .entry))) (Marked (problemOf (now (s .entry))) (now (seen .exit)) (now («asked_variables» .exit))) ⌝ }
+    ensures begun { λ r. ⌜ Begun (problemOf (now (s .entry)) .nodes) (Demanded (problemOf (now (s .entry))) (now (asked .entry)))
+        (Marked (problemOf (now (s .entry))) (now (seen .exit)) (onVariables (now (asked .exit)))) ⌝ }
+    ensures kept { λ r. ⌜ onNodes (now (asked .exit)) ≡ onNodes (now (asked .entry)) ⌝ }
 {
     let mut n: usize = 0;
     while n < nodes {
-        let atoms = atoms_at(asked_nodes, n);
         let node = NodeId(n as u16);
+        let atoms = demanded_of(asked, node);
         n += 1;
         if atoms.is_empty() {
             continue;
         }
-        visit(s, places, atoms, node, seen, asked_variables);
+        visit(s, places, atoms, node, seen, &mut asked[demands::VARIABLES]);
     }
 }
 
 // The same, with nothing to do where nothing is demanded.
-fn begin(
-    s: &[u8],
-    places: &[u16; 512],
-    nodes: usize,
-    asked_nodes: &[u32; 512],
-    seen: &mut [u32; 512],
-    asked_variables: &mut [u32; 64],
-)
+fn begin(s: &[u8], places: &Places, asked: &mut Asked, seen: &mut Sets, nodes: usize)
     requires held { ⌜ Standing (now s) (now places) × (nodes ≡ length (problemOf (now s) .nodes)) ⌝ }
     requires none { ⌜ ((i : ℕ) → i < nodes → getD (now seen) i 0 ≡ 0) ⌝ }
-    ensures { λ r. ⌜ Begun (problemOf (now (s .entry)) .nodes) (Marked (problemOf (now (s .entry))) (now («asked_nodes» .entry)) (now («asked_variables» .entry))) (Marked (problemOf (now (s .entry))) (now (seen .exit)) (now («asked_variables» .exit))) ⌝ }
+    ensures begun { λ r. ⌜ Begun (problemOf (now (s .entry)) .nodes) (Demanded (problemOf (now (s .entry))) (now (asked .entry)))
+        (Marked (problemOf (now (s .entry))) (now (seen .exit)) (onVariables (now (asked .exit)))) ⌝ }
+    ensures kept { λ r. ⌜ onNodes (now (asked .exit)) ≡ onNodes (now (asked .entry)) ⌝ }
 {
-    if !any(asked_nodes, nodes) {
+    if !any(&asked[demands::NODES], nodes) {
         return;
     }
-    visit_demanded(s, places, nodes, asked_nodes, seen, asked_variables);
+    visit_demanded(s, places, asked, seen, nodes);
 }
 
 // Whether a node is an atom of the set.
-fn clashes_at(s: &[u8], places: &[u16; 512], node: NodeId, atoms: AtomSet) -> bool
+fn clashes_at(s: &[u8], places: &Places, node: NodeId, atoms: AtomSet) -> bool
     requires { ⌜ NodeStands (now s) (now places) (node .0) ⌝ }
     ensures { λ r. ⌜ r ≡ clashAt (formNow (now (s .entry)) (node .0)) (atoms .0) ⌝ }
 {
@@ -373,7 +400,7 @@ fn clashes_at(s: &[u8], places: &[u16; 512], node: NodeId, atoms: AtomSet) -> bo
 }
 
 // Whether an atom is marked for a node that is that atom. The form is looked at only where atoms are marked.
-fn clashing_marked(s: &[u8], places: &[u16; 512], nodes: usize, seen: &[u32; 512]) -> bool
+fn clashing_marked(s: &[u8], places: &Places, seen: &Sets, nodes: usize) -> bool
     requires { ⌜ Standing (now s) (now places) × (nodes ≡ length (problemOf (now s) .nodes)) ⌝ }
     ensures { λ r. ⌜ Clashed (problemOf (now (s .entry)) .nodes) (now (seen .entry)) r ⌝ }
 {
@@ -393,52 +420,64 @@ fn clashing_marked(s: &[u8], places: &[u16; 512], nodes: usize, seen: &[u32; 512
 }
 
 // The same, with nothing to do where nothing is marked.
-fn clashing(s: &[u8], places: &[u16; 512], nodes: usize, seen: &[u32; 512]) -> bool
+fn clashing(s: &[u8], places: &Places, seen: &Sets, nodes: usize) -> bool
     requires { ⌜ Standing (now s) (now places) × (nodes ≡ length (problemOf (now s) .nodes)) ⌝ }
     ensures { λ r. ⌜ Clashed (problemOf (now (s .entry)) .nodes) (now (seen .entry)) r ⌝ }
 {
     if !any(seen, nodes) {
         return false;
     }
-    clashing_marked(s, places, nodes, seen)
+    clashing_marked(s, places, seen, nodes)
+}
+
+// Nothing is seen at the nodes in use, and nothing was passed on from the variables in use. The table is lent as a slice: so its length is known where it
+// is called.
+fn clear_marks(marks: &mut [Sets], nodes: usize, variables: usize)
+    requires { ⌜ (length (now marks) ≡ 2) × (nodes ≤ 512) × (variables ≤ 512) ⌝ }
+    ensures seen { λ r. ⌜ ((i : ℕ) → i < nodes → getD (seenIn (now (marks .exit))) i 0 ≡ 0) ⌝ }
+    ensures done { λ r. ⌜ ((i : ℕ) → i < variables → getD (doneIn (now (marks .exit))) i 0 ≡ 0) ⌝ }
+{
+    clear(&mut marks[SEEN], nodes);
+    clear(&mut marks[DONE], variables);
 }
 
 // "the demands of tags 21 and 22 and those raised are resolved under the bindings": the atoms demanded of each node and of each variable come in the
-// tables. True if a demand ends at an atom fresh for itself. The facts are then the atoms left at the unbound variables. It goes on to the end all the
+// table. True if a demand ends at an atom fresh for itself. The facts are then the atoms left at the unbound variables. It goes on to the end all the
 // same, so what is looked at does not depend on where a clash is.
 pub fn resolve(
     s: &[u8],
-    places: &[u16; 512],
+    places: &Places,
+    bound: VariableSet,
+    made: &Made,
+    values: &Values,
+    asked: &mut Asked,
+    marks: &mut Marks,
     nodes: usize,
     atoms: usize,
     variables: usize,
-    bound: VariableSet,
-    roots: &[u16; 64],
-    value_images: &[u8; 2048],
-    asked_nodes: &[u32; 512],
-    asked_variables: &mut [u32; 64],
-    seen: &mut [u32; 512],
-    done: &mut [u32; 64],
 ) -> bool
-    requires held { ⌜ Standing (now s) (now places) × Bound (problemOf (now s)) (bound .0) (now roots) (now «value_images») ⌝ }
-    requires sizes { ⌜ (nodes ≡ length (problemOf (now s) .nodes)) × (atoms ≡ problemOf (now s) .atoms) × (variables ≡ problemOf (now s) .variables) ⌝ }
-    requires small { ⌜ ((w : Pair) → Marked (problemOf (now s)) (now «asked_nodes») (now «asked_variables») w → atomOf w < problemOf (now s) .atoms) ⌝ }
-    ensures { λ r. ⌜ Resolved (problemOf (now (s .entry)) .nodes) (valueAt (problemOf (now (s .entry)) .atoms) (bound .0) (now (roots .entry)) (now («value_images» .entry))) (Marked (problemOf (now (s .entry))) (now («asked_nodes» .entry)) (now («asked_variables» .entry))) (Marked (problemOf (now (s .entry))) (now (seen .exit)) (now («asked_variables» .exit))) (r ≡ true) ⌝ }
+    requires held { ⌜ Standing (now s) (now places) × Bound (problemOf (now s)) (bound .0) (now made) (now values) ⌝ }
+    requires sizes { ⌜ (nodes ≡ length (problemOf (now s) .nodes)) × (atoms ≡ problemOf (now s) .atoms)
+        × (variables ≡ problemOf (now s) .variables) ⌝ }
+    requires small { ⌜ ((w : Pair) → Demanded (problemOf (now s)) (now asked) w → atomOf w < problemOf (now s) .atoms) ⌝ }
+    ensures resolved { λ r. ⌜ Resolved (problemOf (now (s .entry)) .nodes)
+        (valueAt (problemOf (now (s .entry)) .atoms) (bound .0) (now (made .entry)) (now (values .entry)))
+        (Demanded (problemOf (now (s .entry))) (now (asked .entry)))
+        (SoFar (problemOf (now (s .entry))) (now (asked .exit)) (now (marks .exit))) (r ≡ true) ⌝ }
+    ensures kept { λ r. ⌜ onNodes (now (asked .exit)) ≡ onNodes (now (asked .entry)) ⌝ }
 {
-    clear(seen, nodes);
-    clear(done, variables);
-    begin(s, places, nodes, asked_nodes, seen, asked_variables);
+    clear_marks(marks, nodes, variables);
+    begin(s, places, asked, &mut marks[SEEN], nodes);
     close(
         s,
         places,
+        bound,
+        made,
+        values,
+        asked,
+        marks,
         atoms,
         variables,
-        bound,
-        roots,
-        value_images,
-        seen,
-        asked_variables,
-        done,
     );
-    clashing(s, places, nodes, seen)
+    clashing(s, places, &marks[SEEN], nodes)
 }

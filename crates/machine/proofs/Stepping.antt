@@ -1,53 +1,45 @@
 -- The laws of one step: in a state that the run comes to, the resolved sides, the rule that is told and what it takes are the definition's.
-use Prim.Native.Nat.{ℕ, zero, suc, _+_, _≤_, _<_}
+use Prim.Native.Nat.{ℕ, suc, _+_, _≤_, _<_}
 use native.Mathlib.Omega.{arith}
-use mathlib.Core.Path.{_≡_, refl, sym, _∙_, ap, ap₂}
-use mathlib.Core.Logic.{_⊎_, inl, inr}
-use mathlib.Core.Bool.{Bool, true, false, cond}
-use mathlib.Core.List.{List, [], _∷_, _++_}
+use mathlib.Core.Path.{_≡_, refl, sym, _∙_, ap}
+use mathlib.Core.Logic.{inl, inr}
+use mathlib.Core.Bool.{Bool, false, cond}
+use mathlib.Core.List.{List, [], _∷_}
 use mathlib.Core.Option.{none, some}
-use lib.ListN.{length, getD, length-append}
-use Rattle.names.specs.declared.NodeId.{NodeId}
+use lib.ListN.{length, length-append}
 use Rattle.permutation.specs.Table.{Table, after, ofSwaps}
-use Rattle.permutation.specs.declared.Permutation.{Permutation}
 use Rattle.permutation.specs.Store as Store
 use Rattle.sets.specs.Bits.{member}
 use Rattle.sets.proofs.Bits.{by-member}
-use Rattle.problem.specs.Problem.{Node, unit-form, atom-form, abstraction-form, pair-form, application-form, suspension-form, formAt}
-use Rattle.problem.specs.Readable.{Named}
+use Rattle.problem.specs.Problem.{Node, unit-form, atom-form, abstraction-form, pair-form, application-form, suspension-form, formAt, Problem}
+use Rattle.problem.specs.Readable.{Named, Readable}
 use Rattle.problem.specs.Held.{problemOf}
-use Rattle.problem.specs.Look.{formNow, formTold, Suspended, swapsOf}
+use Rattle.problem.specs.Look.{formNow, formTold, ownSwaps}
 use Rattle.run.specs.Meaning.{Side, Binding, meaning}
-use Rattle.run.specs.Run.{Equation, Subject, Demand, Ground, top, valueOf, permuted, resolved, Step, refuses, goes-on, rule, step, pending}
-use Rattle.run.proofs.Trees.{Fits}
+use Rattle.run.specs.Run.{Subject, Ground, top, valueOf, permuted, resolved, goes-on, rule, step, pending}
 use Rattle.run.proofs.Did.{occursSide}
 use Rattle.run.proofs.Bindings.{Meant, Settled}
-use Rattle.run.proofs.States.{State, state-next, start, groundWith, Keeps as KeepsAll, step-keeps}
-use Rattle.room.specs.Stacks.{Reaches, after-step}
+use Rattle.run.proofs.States.{State as RunState, state-next, start, Keeps as KeepsAll, step-keeps}
+use Rattle.room.specs.Stacks.{after-step}
 use Rattle.room.proofs.Reached.{reached-all}
 use Rattle.room.proofs.Room.{reaches-room}
 use Rattle.stack.specs.Stack.{Stack, stackOf, equationOf}
 use Rattle.stack.specs.declared.Pending.{Pending}
-use Rattle.bindings.specs.Bindings.{Bindings, tables, bindingAt, bindingsOf, Keeps}
+use Rattle.stack.proofs.Stack.{length-stackOf}
+use Rattle.bindings.specs.Bindings.{Bindings, bindingAt, bindingsOf, Keeps, NodesThere}
 use Rattle.bindings.proofs.Bindings.{valueOf-set}
-use Rattle.occurs.specs.Reached.{Answered, Rooted}
+use Rattle.occurs.specs.Reached.{Rooted}
 use Rattle.occurs.proofs.Bindings.{rooted}
 use Rattle.occurs.proofs.Meaning.{occurs-meaning}
 use Rattle.rule.specs.declared.side.Side.{Side as HeldSide}
 use Rattle.rule.specs.declared.Act.{Act}
 use Rattle.rule.specs.declared.Act.the-variants.{Done, Clash, Inside, Protection, Part, Parts, Renamed, Same, BindLeft, BindRight}
-use Rattle.rule.specs.Side.{groundOf, sideAt, wholeOf, RootsThere, Resolved}
-use Rattle.rule.specs.Rule.{stepOf, ruleAct, Told, Free, Decided}
-use Rattle.perform.specs.Performed.{Takes}
+use Rattle.rule.specs.Side.{groundIn, sideAt, sideHeld, wholeOf, Resolved}
+use Rattle.rule.specs.Rule.{Fits, Told, Free, Agrees, Decided}
+use Rattle.rule.proofs.Ruling.{ruled, Names, names}
+use Rattle.perform.specs.declared.State.{State}
+use Rattle.perform.specs.Performed.{stepTold, Takes}
 use Rattle.machine.specs.Step.{Present, stepHere}
-use Rattle.rule.proofs.Ruling.{ruled, wholes, Names, names}
-
--- ---- lengths
-
-pub length-stackOf : (A : ℕ) (t : Stack) (n : ℕ) → length (stackOf A t n) ≡ n
-unfolding stackOf
-length-stackOf A t zero = refl
-length-stackOf A t (suc n) = ap suc (length-stackOf A t n)
 
 length-pending : (k : ℕ) (qs : List (Side × Side)) → length (pending k qs) ≡ length qs
 length-pending k [] = refl
@@ -55,32 +47,35 @@ length-pending k (q ∷ qs) = ap suc (length-pending k qs)
 
 -- ---- the forms of resolved sides
 
--- A variable without a value is not bound.
-unbound : (A : ℕ) (t : Bindings) (k bound : ℕ) → Keeps (t .order) k bound → (X : ℕ) → valueOf (bindingsOf A t k) X ≡ none → member bound X ≡ false
-unbound A t k bound h X e =
-    by-member bound X
-    (λ m.
-    absurd
-    (let q : none ≡ some (bindingAt A t X .value) = sym e ∙ valueOf-set A t k bound h X ∙ ap (λ (b : Bool). cond b (some (bindingAt A t X .value)) none) m in
-    let z : _≡_ {A = ℕ} 0 1 = cc in omega arith))
-    (λ m. m)
+-- A variable has no value exactly if it is not bound.
+module _ (A : ℕ) (t : Bindings) (k bound : ℕ) (keeps : Keeps (t .made) k bound) where
+  unbound : (X : ℕ) → valueOf (bindingsOf A t k) X ≡ none → member bound X ≡ false
+  unbound X e =
+      by-member bound X
+      (λ m.
+      absurd
+      (let value : none ≡ some (bindingAt A t X .value) =
+      sym e ∙ valueOf-set A t k bound keeps X ∙ ap (λ (b : Bool). cond b (some (bindingAt A t X .value)) none) m in
+      let z : _≡_ {A = ℕ} 0 1 = cc in omega arith))
+      (λ m. m)
 
-valueless : (A : ℕ) (t : Bindings) (k bound : ℕ) → Keeps (t .order) k bound → (X : ℕ) → member bound X ≡ false → valueOf (bindingsOf A t k) X ≡ none
-valueless A t k bound h X m = valueOf-set A t k bound h X ∙ rw m
+  valueless : (X : ℕ) → member bound X ≡ false → valueOf (bindingsOf A t k) X ≡ none
+  valueless X m = valueOf-set A t k bound keeps X ∙ rw m
 
-free-form : (A atoms : ℕ) (t : Bindings) (k bound : ℕ) → Keeps (t .order) k bound → (P : Table) (v : Node) → Settled (bindingsOf A t k) (permuted atoms P v) → Free bound (formTold v)
-free-form A atoms t k bound h P unit-form s = tt
-free-form A atoms t k bound h P (atom-form a) s = tt
-free-form A atoms t k bound h P (abstraction-form a n) s = tt
-free-form A atoms t k bound h P (pair-form l r) s = tt
-free-form A atoms t k bound h P (application-form f n) s = tt
-free-form A atoms t k bound h P (suspension-form π X) s = unbound A t k bound h X (s (after P (ofSwaps atoms π)) X refl)
+  free-form : (atoms : ℕ) (P : Table) (v : Node) → Settled (bindingsOf A t k) (permuted atoms P v) → Free bound (formTold v)
+  free-form atoms P unit-form s = refl
+  free-form atoms P (atom-form a) s = refl
+  free-form atoms P (abstraction-form a n) s = refl
+  free-form atoms P (pair-form l r) s = refl
+  free-form atoms P (application-form f n) s = refl
+  free-form atoms P (suspension-form π X) s = unbound X (s (after P (ofSwaps atoms π)) X refl)
 
-whole-here : (s : List ℕ) (A : ℕ) (P : Table) (n : ℕ) → A ≡ problemOf s .atoms → wholeOf s A P n ≡ after P (ofSwaps (problemOf s .atoms) (swapsOf (formNow s n)))
+whole-here : (s : List ℕ) (A : ℕ) (P : Table) (n : ℕ) → A ≡ problemOf s .atoms
+    → wholeOf s A P n ≡ after P (ofSwaps (problemOf s .atoms) (ownSwaps (formNow s n)))
 unfolding wholeOf
-whole-here s A P n e = ap (λ (k : ℕ). after P (ofSwaps k (swapsOf (formNow s n)))) e
+whole-here s A P n e = ap (λ (k : ℕ). after P (ofSwaps k (ownSwaps (formNow s n)))) e
 
-top-here : (s : List ℕ) (f : ℕ → Bool) (x : Side) → top (groundOf s f) x ≡ permuted (problemOf s .atoms) (x .images) (formNow s (x .node))
+top-here : (s : List ℕ) (f : ℕ → Bool) (x : Side) → top (groundIn s f) x ≡ permuted (problemOf s .atoms) (x .images) (formNow s (x .node))
 unfolding top
 top-here s f x = refl
 
@@ -90,14 +85,15 @@ step-here g bs l r s t e f = rw (e, f)
 
 -- ---- what an act takes
 
-module _ (s : List ℕ) (A w n bound : ℕ) (bs : List Binding) (P Q : Table) (l r : HeldSide) (named : (m : ℕ) → Named (problemOf s .atoms) (problemOf s .variables) m (formAt (problemOf s .nodes) m))
+module _ (s : List ℕ) (A w : ℕ) (state : State) (bs : List Binding) (l r : HeldSide)
+    (named : (m : ℕ) → Named (problemOf s .atoms) (problemOf s .variables) m (formAt (problemOf s .nodes) m))
     (number : A ≡ problemOf s .atoms) (there : l .node .0 < length (problemOf s .nodes)) (here : r .node .0 < length (problemOf s .nodes))
-    (free : (X : ℕ) → valueOf bs X ≡ none → member bound X ≡ false) where
+    (free : (X : ℕ) → valueOf bs X ≡ none → member (state .bound .0) X ≡ false) where
   takes-of : (act : Act) → Names (problemOf s .variables) (formNow s (l .node .0)) (formNow s (r .node .0)) act
-      → KeepsAll (groundOf s (member w)) (problemOf s .variables) named bs (stepOf P Q (sideAt A (l .images) (l .node)) (sideAt A (r .images) (r .node)) act)
-      → ((qs : List (Side × Side)) (b : List (ℕ × Side)) (c : List (ℕ × Subject))
-      → stepOf P Q (sideAt A (l .images) (l .node)) (sideAt A (r .images) (r .node)) act ≡ goes-on qs b c → length qs + n ≤ 576)
-      → Takes s A n bound l r act
+      → KeepsAll (groundIn s (member w)) (problemOf s .variables) named bs (stepTold s A l r act)
+      → ((qs : List (Side × Side)) (b : List (ℕ × Side)) (c : List (ℕ × Subject)) → stepTold s A l r act ≡ goes-on qs b c
+      → length qs + state .waiting ≤ 576)
+      → Takes s A state l r act
   takes-of Done i k m = tt
   takes-of Clash i k m = tt
   takes-of Inside i k m = tt
@@ -111,109 +107,117 @@ module _ (s : List ℕ) (A w n bound : ℕ) (bs : List Binding) (P Q : Table) (l
 
 -- ---- in a state that the run comes to
 
-module _ (s places variables : List ℕ) (A w : ℕ) (waiting : Stack) (n : ℕ) (made : Bindings) (bound count : ℕ) (e : Pending)
-    (h : Present s places variables A w waiting n made bound count e) where
+module _ {s : List ℕ} {places : List (List ℕ)} {nodeVariables : List ℕ} {A w : ℕ} {waiting : Stack} {made : Bindings} {state : State} {e : Pending}
+    (h : Present s places nodeVariables A w waiting made state e) where
+  abbrev problem : Problem
+  problem = problemOf s
+
+  abbrev ground : Ground
+  ground = groundIn s (member w)
+
+  abbrev bound : ℕ
+  bound = state .bound .0
+
+  abbrev bs : List Binding
+  bs = bindingsOf A made (state .count)
+
+  readable : Readable problem
+  readable = h .footing .standing .readable
+
   pub few : A ≤ 32
-  few = rw (h .readied .number) (h .readied .readable .few-atoms)
+  few = rw (h .footing .number) (readable .few-atoms)
 
-  state : State (groundOf s (member w)) (problemOf s .variables) (h .readied .readable .named-nodes) (equationOf A e ∷ stackOf A waiting n) (bindingsOf A made count) (h .demanded)
-  state =
-      reached-all (State (groundOf s (member w)) (problemOf s .variables) (h .readied .readable .named-nodes))
-      (state-next (groundOf s (member w)) (problemOf s .variables) (h .readied .readable .named-nodes)) (start (problemOf s) (h .readied .readable) (member w)) (h .reached)
+  run-state : RunState ground (problem .variables) (readable .named-nodes) (equationOf A e ∷ stackOf A waiting (state .waiting)) bs (h .demanded)
+  run-state =
+      reached-all (RunState ground (problem .variables) (readable .named-nodes)) (state-next ground (problem .variables) (readable .named-nodes))
+      (start problem readable (member w)) (h .reached)
 
-  meant : Meant (groundOf s (member w)) (problemOf s .variables) (bindingsOf A made count) (meaning (problemOf s .nodes) (bindingsOf A made count))
-  meant = state .meant
+  meant : Meant ground (problem .variables) bs (meaning (problem .nodes) bs)
+  meant = run-state .meant
 
-  roots-here : Rooted (bindingsOf A made count) bound (made .roots)
-  roots-here = rooted A made count bound (h .keeps)
+  values-stand : Rooted bs bound (made .made)
+  values-stand = rooted A made (state .count) bound (h .keeps)
 
-  pub roots-there : RootsThere (length (problemOf s .nodes)) (made .roots) bound
-  roots-there Y b = let (v, q, z) = roots-here .valued Y b in rw z (meant .fits Y v q .there)
+  pub nodes-there : NodesThere (length (problem .nodes)) (made .made) bound
+  nodes-there Y b = let (v, q, z) = values-stand .valued Y b in rw z (meant .fits Y v q .there)
 
-  pub roots-small : RootsThere 512 (made .roots) bound
-  roots-small Y b = omega (arith, roots-there Y b, h .readied .readable .few-nodes)
+  pub nodes-small : NodesThere 512 (made .made) bound
+  nodes-small Y b = omega (arith, nodes-there Y b, readable .few-nodes)
 
-  pub left-there : e .«left_node» .0 < length (problemOf s .nodes)
+  pub left-there : e .«left_node» .0 < length (problem .nodes)
   unfolding equationOf
-  left-there = state .waiting .0 .0 .there
+  left-there = run-state .waiting .0 .0 .there
 
-  pub right-there : e .«right_node» .0 < length (problemOf s .nodes)
+  pub right-there : e .«right_node» .0 < length (problem .nodes)
   unfolding equationOf
-  right-there = state .waiting .0 .1 .there
+  right-there = run-state .waiting .0 .1 .there
 
   -- What the occurs check says of an unbound variable.
-  told : (X m : ℕ) (P : Table) → member bound X ≡ false → m < length (problemOf s .nodes)
-      → Told bound (made .roots) variables m X (occursSide (groundOf s (member w)) (bindingsOf A made count) X (record { images = P; node = m }))
+  told : (X m : ℕ) (P : Table) → member bound X ≡ false → m < length (problem .nodes)
+      → Told bound (made .made) nodeVariables m X (occursSide ground bs X (record { images = P; node = m }))
   told X m P u t b a =
-      occurs-meaning meant variables roots-here (h .filled) (record { images = P; node = m }) t X (valueless A made count bound (h .keeps) X u) b a
+      occurs-meaning meant nodeVariables values-stand (h .footing .filled) (record { images = P; node = m }) t X
+      (valueless A made (state .count) bound (h .keeps) X u) b a
 
-  module _ (l r : HeldSide) (act : Act) (i : Resolved s A (made .roots) (made .valueImages) bound count (sideAt A (e .left) (e .«left_node»)) l)
-      (j : Resolved s A (made .roots) (made .valueImages) bound count (sideAt A (e .right) (e .«right_node»)) r)
-      (d : Decided A (member w) bound (made .roots) variables l r act) where
-    left-is : sideAt A (l .images) (l .node) ≡ resolved (groundOf s (member w)) (bindingsOf A made count) (sideAt A (e .left) (e .«left_node»))
-    left-is = i .side (member w) (made .order) (made .madeBy) (h .keeps) (h .number)
+  -- The form of a resolved side is no suspension of a bound variable.
+  free : (before : Side) (x : HeldSide) → Resolved s A made bound (state .count) before x → Free bound (x .form)
+  free before x i =
+      let settled = rw (← (i .side (member w) (h .keeps)), top-here s (member w) (sideHeld A x)) at (meant .settles before) in
+      rw (i .form) (free-form A made (state .count) bound (h .keeps) (problem .atoms) (Store.table A (x .images)) (formNow s (x .node .0)) settled)
 
-    right-is : sideAt A (r .images) (r .node) ≡ resolved (groundOf s (member w)) (bindingsOf A made count) (sideAt A (e .right) (e .«right_node»))
-    right-is = j .side (member w) (made .order) (made .madeBy) (h .keeps) (h .number)
+  -- The sides as they are resolved, and what is told of them.
+  module _ {l r : HeldSide} {act : Act} (i : Resolved s A made bound (state .count) (sideAt A (e .left) (e .«left_node»)) l)
+      (j : Resolved s A made bound (state .count) (sideAt A (e .right) (e .«right_node»)) r)
+      (d : Decided A (member w) bound (made .made) nodeVariables l r act) where
+    abbrev left-form : Node
+    left-form = formNow s (l .node .0)
 
-    free-left : Free bound (l .form)
-    free-left =
-        rw (i .form)
-        (free-form A (problemOf s .atoms) made count bound (h .keeps) (Store.table A (l .images)) (formNow s (l .node .0))
-        (rw (← left-is, top-here s (member w) (sideAt A (l .images) (l .node))) at (meant .settles (sideAt A (e .left) (e .«left_node»)))))
+    abbrev right-form : Node
+    right-form = formNow s (r .node .0)
 
-    free-right : Free bound (r .form)
-    free-right =
-        rw (j .form)
-        (free-form A (problemOf s .atoms) made count bound (h .keeps) (Store.table A (r .images)) (formNow s (r .node .0))
-        (rw (← right-is, top-here s (member w) (sideAt A (r .images) (r .node))) at (meant .settles (sideAt A (e .right) (e .«right_node»)))))
-
-    agree : (X : ℕ) (m : NodeId) (p : Permutation) → member bound X ≡ false → (m ≡ l .node) ⊎ (m ≡ r .node)
-        → Told bound (made .roots) variables (m .0) X (occursSide (groundOf s (member w)) (bindingsOf A made count) X (sideAt A p m))
+    agree : Agrees A bound (made .made) nodeVariables l r (occursSide ground bs)
     agree X m p u (inl q) = told X (m .0) (Store.table A p) u (rw q (i .there))
     agree X m p u (inr q) = told X (m .0) (Store.table A p) u (rw q (j .there))
 
-    abbrev Act-here : Act
-    Act-here =
-        ruleAct (member w) (occursSide (groundOf s (member w)) (bindingsOf A made count)) (sideAt A (l .images) (l .node)) (sideAt A (r .images) (r .node))
-        (formTold (formNow s (l .node .0))) (formTold (formNow s (r .node .0)))
-
-    act-is : act ≡ Act-here
-    act-is = rw (i .form, j .form) at (d (occursSide (groundOf s (member w)) (bindingsOf A made count)) agree free-left free-right)
-
-    abbrev pub Done-here : Step
-    Done-here =
-        stepOf (wholeOf s A (Store.table A (l .images)) (l .node .0)) (wholeOf s A (Store.table A (r .images)) (r .node .0)) (sideAt A (l .images) (l .node)) (sideAt A (r .images) (r .node)) act
+    -- The rule that is told is one that fits.
+    fits : Fits (member w) (occursSide ground bs) (sideHeld A l) (sideHeld A r) (formTold left-form) (formTold right-form) act
+    fits = rw (i .form, j .form) at (d (occursSide ground bs) agree (free _ l i) (free _ r j))
 
     -- What is told is the definition's step.
-    pub step-is : Done-here ≡ stepHere s A w made count e
+    pub step-is : stepTold s A l r act ≡ stepHere s A w made state e
     unfolding equationOf
     step-is =
-        rw (whole-here s A (Store.table A (l .images)) (l .node .0) (h .readied .number), whole-here s A (Store.table A (r .images)) (r .node .0) (h .readied .number), act-is)
-        (ruled (groundOf s (member w)) (bindingsOf A made count) (sideAt A (l .images) (l .node)) (sideAt A (r .images) (r .node)) (formNow s (l .node .0)) (formNow s (r .node .0))
-        ∙ rw (← (top-here s (member w) (sideAt A (l .images) (l .node))), ← (top-here s (member w) (sideAt A (r .images) (r .node))))
-        (step-here (groundOf s (member w)) (bindingsOf A made count) (sideAt A (e .left) (e .«left_node»)) (sideAt A (e .right) (e .«right_node»)) (sideAt A (l .images) (l .node)) (sideAt A (r .images) (r .node))
-        left-is right-is))
+        let left-whole-here = whole-here s A (Store.table A (l .images)) (l .node .0) (h .footing .number) in
+        let right-whole-here = whole-here s A (Store.table A (r .images)) (r .node .0) (h .footing .number) in
+        rw (left-whole-here, right-whole-here)
+        (ruled ground bs (sideHeld A l) (sideHeld A r) left-form right-form act fits
+        ∙ rw (← (top-here s (member w) (sideHeld A l)), ← (top-here s (member w) (sideHeld A r)))
+        (step-here ground bs (sideAt A (e .left) (e .«left_node»)) (sideAt A (e .right) (e .«right_node»)) (sideHeld A l) (sideHeld A r)
+        (i .side (member w) (h .keeps)) (j .side (member w) (h .keeps))))
 
-    names-here : Names (problemOf s .variables) (formNow s (l .node .0)) (formNow s (r .node .0)) act
-    names-here =
-        rw act-is
-        (names (problemOf s .atoms) (problemOf s .variables) (member w) (occursSide (groundOf s (member w)) (bindingsOf A made count)) (sideAt A (l .images) (l .node))
-        (sideAt A (r .images) (r .node)) (l .node .0) (formNow s (l .node .0)) (formNow s (r .node .0)) (h .readied .readable .named-nodes (l .node .0)))
+    named-there : Names (problem .variables) left-form right-form act
+    named-there = names (problem .atoms) (problem .variables) (l .node .0) left-form right-form act (readable .named-nodes (l .node .0)) fits
 
-    keeps-here : KeepsAll (groundOf s (member w)) (problemOf s .variables) (h .readied .readable .named-nodes) (bindingsOf A made count) Done-here
-    keeps-here =
+    kept : KeepsAll ground (problem .variables) (readable .named-nodes) bs (stepTold s A l r act)
+    kept =
         rw step-is
-        (step-keeps (groundOf s (member w)) (problemOf s .variables) (h .readied .readable .named-nodes) meant (equationOf A e .left) (equationOf A e .right) (state .waiting .0 .0)
-        (state .waiting .0 .1))
+        (step-keeps ground (problem .variables) (readable .named-nodes) meant (equationOf A e .left) (equationOf A e .right) (run-state .waiting .0 .0)
+        (run-state .waiting .0 .1))
 
     -- Room for what comes of it.
-    room : (qs : List (Side × Side)) (b : List (ℕ × Side)) (c : List (ℕ × Subject)) → Done-here ≡ goes-on qs b c → length qs + n ≤ 576
+    room : (qs : List (Side × Side)) (b : List (ℕ × Side)) (c : List (ℕ × Subject)) → stepTold s A l r act ≡ goes-on qs b c
+        → length qs + state .waiting ≤ 576
     room qs b c q =
-        let k = reaches-room (problemOf s) (h .readied .readable) (member w) _ _ _ (after-step (h .reached) (sym step-is ∙ q)) in
-        omega (arith, k, length-append (pending (equationOf A e .number) qs) (stackOf A waiting n), length-pending (equationOf A e .number) qs, length-stackOf A waiting n)
+        let k = reaches-room problem readable (member w) _ _ _ (after-step (h .reached) (sym step-is ∙ q)) in
+        omega (
+          arith,
+          k,
+          length-append (pending (equationOf A e .number) qs) (stackOf A waiting (state .waiting)),
+          length-pending (equationOf A e .number) qs,
+          length-stackOf A waiting (state .waiting),
+        )
 
-    pub takes-here : Takes s A n bound l r act
-    takes-here =
-        takes-of s A w n bound (bindingsOf A made count) (wholeOf s A (Store.table A (l .images)) (l .node .0)) (wholeOf s A (Store.table A (r .images)) (r .node .0)) l r
-        (h .readied .readable .named-nodes) (h .readied .number) (i .there) (j .there) (unbound A made count bound (h .keeps)) act names-here keeps-here room
+    pub takes : Takes s A state l r act
+    takes =
+        takes-of s A w state bs l r (readable .named-nodes) (h .footing .number) (i .there) (j .there)
+        (unbound A made (state .count) bound (h .keeps)) act named-there kept room

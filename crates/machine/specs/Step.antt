@@ -5,6 +5,7 @@ use mathlib.Core.List.{List, [], _∷_}
 use lib.ListN.{length}
 use Rattle.sets.specs.Bits.{member}
 use Rattle.problem.specs.Held.{problemOf}
+use Rattle.problem.specs.Look.{Standing}
 use Rattle.run.specs.Meaning.{Binding}
 use Rattle.run.specs.Run.{Equation, Demand, Step, step, equationsFrom}
 use Rattle.room.specs.Stacks.{Reaches}
@@ -12,21 +13,27 @@ use Rattle.stack.specs.Stack.{Stack, stackOf, equationOf}
 use Rattle.stack.specs.declared.Pending.{Pending}
 use Rattle.occurs.specs.Reached.{FilledBelow}
 use Rattle.bindings.specs.Bindings.{Bindings, bindingsOf, Keeps}
-use Rattle.rule.specs.Side.{Readied, groundOf}
+use Rattle.rule.specs.Side.{groundIn}
+use Rattle.perform.specs.declared.State.{State}
 
 -- What the run of the problem comes to from its start, with the variables of the set w protected.
 abbrev pub FromStart : List ℕ → ℕ → List Equation → List Binding → List Demand → Type 0
-FromStart s w es bs ds = Reaches (groundOf s (member w)) (equationsFrom (problemOf s .atoms) 0 (problemOf s .equations)) [] [] es bs ds
+FromStart s w es bs ds = Reaches (groundIn s (member w)) (equationsFrom (problemOf s .atoms) 0 (problemOf s .equations)) [] [] es bs ds
 
--- The tables hold a state that the run comes to, with the equation e on top; the sets of the nodes' variables are there.
-pub record Present (s places variables : List ℕ) (A w : ℕ) (waiting : Stack) (n : ℕ) (made : Bindings) (bound count : ℕ) (e : Pending) : Type 0 where
-  pub readied : Readied s places A
-  pub filled : FilledBelow (problemOf s .nodes) variables (length (problemOf s .nodes))
-  pub keeps : Keeps (made .order) count bound
-  pub number : length (bindingsOf A made count) ≡ count
+-- What every step leans on: the problem that was read stands in the input, A is its number of atoms, and the sets of its nodes' variables are there.
+pub record Footing (s : List ℕ) (places : List (List ℕ)) (nodeVariables : List ℕ) (A : ℕ) : Type 0 where
+  pub standing : Standing s places
+  pub number : A ≡ problemOf s .atoms
+  pub filled : FilledBelow (problemOf s .nodes) nodeVariables (length (problemOf s .nodes))
+
+-- The tables hold a state that the run comes to, with the equation e on top of those that wait.
+pub record Present (s : List ℕ) (places : List (List ℕ)) (nodeVariables : List ℕ) (A w : ℕ) (waiting : Stack) (made : Bindings) (state : State)
+    (e : Pending) : Type 0 where
+  pub footing : Footing s places nodeVariables A
+  pub keeps : Keeps (made .made) (state .count) (state .bound .0)
   pub demanded : List Demand
-  pub reached : FromStart s w (equationOf A e ∷ stackOf A waiting n) (bindingsOf A made count) demanded
+  pub reached : FromStart s w (equationOf A e ∷ stackOf A waiting (state .waiting)) (bindingsOf A made (state .count)) demanded
 
 -- The definition's step of that equation.
-abbrev pub stepHere : List ℕ → ℕ → ℕ → Bindings → ℕ → Pending → Step
-stepHere s A w made count e = step (groundOf s (member w)) (bindingsOf A made count) (equationOf A e .left) (equationOf A e .right)
+abbrev pub stepHere : List ℕ → ℕ → ℕ → Bindings → State → Pending → Step
+stepHere s A w made state e = step (groundIn s (member w)) (bindingsOf A made (state .count)) (equationOf A e .left) (equationOf A e .right)

@@ -7,11 +7,13 @@ use mathlib.Core.List.{List, [], _∷_, _++_, List·Memᴰ, List·Memᴰ·head, 
 use lib.Dec.{T, eqb, eqb→eq, eqb-refl}
 use borrow.Author.Tests.{eq-eqb, ne-eqb}
 use Rattle.permutation.specs.Swaps.{Swaps, act, atoms}
-use Rattle.permutation.proofs.Swaps.{by-eq, disagree-among}
+use Rattle.names.proofs.Equal.{by-eq}
+use Rattle.permutation.proofs.Swaps.{disagree-among}
 use Rattle.nominal.specs.Tree.{Tree, unit, atom, abstraction, pair, application, suspension, permute}
 use Rattle.nominal.specs.Form.{form, name, swapsAt, first, second}
-use Rattle.nominal.specs.Figure2.{_⊢_#_, #-unit, #-pair, #-function-symbol, #-abstraction-1, #-abstraction-2, #-atom, #-suspension, _⊢_≈_, ≈-unit, ≈-pair, ≈-function-symbol, ≈-abstraction-1, ≈-abstraction-2, ≈-atom, ≈-suspension}
-use Rattle.nominal.specs.Solutions.{Facts, given}
+use Rattle.nominal.specs.Figure2.{_⊢_#_, #-unit, #-pair, #-function-symbol, #-abstraction-1, #-abstraction-2, #-atom, #-suspension, _⊢_≈_, ≈-unit, ≈-pair}
+use Rattle.nominal.specs.Figure2.{≈-function-symbol, ≈-abstraction-1, ≈-abstraction-2, ≈-atom, ≈-suspension}
+use Rattle.nominal.specs.Solutions.{Facts, environmentOf}
 use Rattle.nominal.specs.Decide.{Test, tested, isGiven, passAll, isFresh, isEqual}
 use Rattle.nominal.proofs.Figure2.{fresh-abstraction}
 use Rattle.nominal.proofs.Laws.{fresh-weaken, equal-weaken}
@@ -34,7 +36,9 @@ pass-of p (a ∷ l) h = and-both (p a) (passAll p l) .1 (h a, pass-of p l h)
 
 -- A tree is made of its form and its parts.
 rebuilt : ℕ → ℕ → Swaps → Tree → Tree → Tree
-rebuilt k n π s t = cond (eqb k 0) unit (cond (eqb k 1) (atom n) (cond (eqb k 2) (abstraction n s) (cond (eqb k 3) (pair s t) (cond (eqb k 4) (application n s) (suspension π n)))))
+rebuilt k n π s t =
+    cond (eqb k 0) unit
+    (cond (eqb k 1) (atom n) (cond (eqb k 2) (abstraction n s) (cond (eqb k 3) (pair s t) (cond (eqb k 4) (application n s) (suspension π n)))))
 
 from-parts : (u : Tree) → u ≡ rebuilt (form u) (name u) (swapsAt u) (first u) (second u)
 unfolding rebuilt
@@ -71,7 +75,9 @@ module _ (m : Test) where
   equal-sound unit u h = rw (of-form u 0 h) ≈-unit
   equal-sound (atom a) u h = let k = and-both (eqb (form u) 1) (eqb a (name u)) .0 h in rw (of-form u 1 (k .0), ← eqb→eq a (name u) (k .1)) ≈-atom
   equal-sound (abstraction a s) u h =
-      let k = and-both (eqb (form u) 2) (cond (eqb a (name u)) (isEqual m s (first u)) (isFresh m a (first u) && isEqual m s (permute ((a, name u) ∷ []) (first u)))) .0 h in
+      let k =
+      and-both (eqb (form u) 2)
+      (cond (eqb a (name u)) (isEqual m s (first u)) (isFresh m a (first u) && isEqual m s (permute ((a, name u) ∷ []) (first u)))) .0 h in
       rw (of-form u 2 (k .0))
       (by-eq a (name u) (λ p. rw (← p) (≈-abstraction-1 (equal-sound s (first u) (rw (eq-eqb a (name u) p) at (k .1)))))
       (λ n. let j = and-both (isFresh m a (first u)) (isEqual m s (permute ((a, name u) ∷ []) (first u))) .0 (rw (ne-eqb a (name u) n) at (k .1)) in
@@ -89,7 +95,8 @@ module _ (m : Test) where
       let p : ℕ → Bool = λ c. eqb (act π c) (act ρ c) || m c X in
       let k = and-both (eqb (form u) 5) (eqb X (name u) && passAll p (atoms π ++ atoms ρ)) .0 h in
       let j = and-both (eqb X (name u)) (passAll p (atoms π ++ atoms ρ)) .0 (k .1) in
-      rw (of-form u 5 (k .0), ← eqb→eq X (name u) (j .0)) (≈-suspension {π = π} {ρ = ρ} (λ a n. rw (ne-eqb (act π a) (act ρ a) n) at (pass-at p (disagree-among π ρ a n) (j .1))))
+      rw (of-form u 5 (k .0), ← eqb→eq X (name u) (j .0))
+      (≈-suspension {π = π} {ρ = ρ} (λ a n. rw (ne-eqb (act π a) (act ρ a) n) at (pass-at p (disagree-among π ρ a n) (j .1))))
 
   pub equal-complete : {s t : Tree} → tested m ⊢ s ≈ t → T (isEqual m s t)
   equal-complete ≈-unit = tt
@@ -101,25 +108,30 @@ module _ (m : Test) where
   equal-complete (≈-atom {a = a}) = eqb-refl a
   equal-complete (≈-suspension {π = π} {ρ = ρ} {X = X} k) =
       let p : ℕ → Bool = λ c. eqb (act π c) (act ρ c) || m c X in
-      and-both (eqb X X) (passAll p (atoms π ++ atoms ρ)) .1
-      (eqb-refl X, pass-of p (atoms π ++ atoms ρ) (λ c. by-eq (act π c) (act ρ c) (λ q. rw (eq-eqb (act π c) (act ρ c) q) tt) (λ n. rw (ne-eqb (act π c) (act ρ c) n) (k c n))))
+      and-both (eqb X X) (passAll p (atoms π ++ atoms ρ)) .1 (
+        eqb-refl X,
+        pass-of p (atoms π ++ atoms ρ)
+            (λ c. by-eq (act π c) (act ρ c) (λ q. rw (eq-eqb (act π c) (act ρ c) q) tt) (λ n. rw (ne-eqb (act π c) (act ρ c) n) (k c n))),
+      )
 
 -- The test of a finite set of facts is membership.
-pub given-sound : (F : Facts) (a X : ℕ) → T (isGiven F a X) → given F a X
+pub given-sound : (F : Facts) (a X : ℕ) → T (isGiven F a X) → environmentOf F a X
 given-sound [] a X h = absurd h
 given-sound (f ∷ F) a X h = go (given-sound F a X) (or-either (eqb a (f .0) && eqb X (f .1)) (isGiven F a X) .0 h)
   where
-    go : (T (isGiven F a X) → given F a X) → T (eqb a (f .0) && eqb X (f .1)) ⊎ T (isGiven F a X) → given (f ∷ F) a X
-    go rest (inl k) = let j = and-both (eqb a (f .0)) (eqb X (f .1)) .0 k in List·Memᴰ·head {x = f} {xs = F} (rw (eqb→eq a (f .0) (j .0), eqb→eq X (f .1) (j .1)))
+    go : (T (isGiven F a X) → environmentOf F a X) → T (eqb a (f .0) && eqb X (f .1)) ⊎ T (isGiven F a X) → environmentOf (f ∷ F) a X
+    go rest (inl k) =
+        let j = and-both (eqb a (f .0)) (eqb X (f .1)) .0 k in List·Memᴰ·head {x = f} {xs = F} (rw (eqb→eq a (f .0) (j .0), eqb→eq X (f .1) (j .1)))
     go rest (inr k) = List·Memᴰ·tail (rest k)
 
-pub given-complete : (F : Facts) (a X : ℕ) → given F a X → T (isGiven F a X)
-given-complete F a X (List·Memᴰ·head {x = f} {xs = G} e) = or-either (eqb a (f .0) && eqb X (f .1)) (isGiven G a X) .1 (inl (rw (← e) (and-both (eqb a a) (eqb X X) .1 (eqb-refl a, eqb-refl X))))
+pub given-complete : (F : Facts) (a X : ℕ) → environmentOf F a X → T (isGiven F a X)
+given-complete F a X (List·Memᴰ·head {x = f} {xs = G} e) =
+    or-either (eqb a (f .0) && eqb X (f .1)) (isGiven G a X) .1 (inl (rw (← e) (and-both (eqb a a) (eqb X X) .1 (eqb-refl a, eqb-refl X))))
 given-complete F a X (List·Memᴰ·tail {x = f} {xs = G} k) = or-either (eqb a (f .0) && eqb X (f .1)) (isGiven G a X) .1 (inr (given-complete G a X k))
 
 -- Freshness and equality from a finite set of facts are decided.
-pub fresh-decided : (F : Facts) (a : ℕ) (t : Tree) → (given F ⊢ a # t) ↔ T (isFresh (isGiven F) a t)
+pub fresh-decided : (F : Facts) (a : ℕ) (t : Tree) → (environmentOf F ⊢ a # t) ↔ T (isFresh (isGiven F) a t)
 fresh-decided F a t = (λ h. fresh-complete (isGiven F) (fresh-weaken (given-complete F) h), λ h. fresh-weaken (given-sound F) (fresh-sound (isGiven F) a t h))
 
-pub equal-decided : (F : Facts) (s t : Tree) → (given F ⊢ s ≈ t) ↔ T (isEqual (isGiven F) s t)
+pub equal-decided : (F : Facts) (s t : Tree) → (environmentOf F ⊢ s ≈ t) ↔ T (isEqual (isGiven F) s t)
 equal-decided F s t = (λ e. equal-complete (isGiven F) (equal-weaken (given-complete F) e), λ h. equal-weaken (given-sound F) (equal-sound (isGiven F) s t h))

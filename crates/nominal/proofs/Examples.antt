@@ -9,7 +9,7 @@ use lib.Dec.{T, T-not}
 use Rattle.permutation.specs.Swaps.{swapped}
 use Rattle.nominal.specs.Tree.{Tree, atom, abstraction, pair, application, suspension, variable, substitute, replacing}
 use Rattle.nominal.specs.Figure2.{_⊢_#_, _⊢_≈_}
-use Rattle.nominal.specs.Solutions.{Every, Facts, given}
+use Rattle.nominal.specs.Solutions.{Every, Facts, environmentOf}
 use Rattle.nominal.specs.Decide.{isGiven, isFresh, isEqual}
 use Rattle.nominal.proofs.Decide.{and-both, fresh-decided, equal-decided}
 
@@ -19,8 +19,8 @@ pub data Judgement : Type 0 where
   freshness : Facts → ℕ → Tree → Judgement
 
 abbrev pub Derivable : Judgement → Type 0
-Derivable (equality F s t) = given F ⊢ s ≈ t
-Derivable (freshness F a t) = given F ⊢ a # t
+Derivable (equality F s t) = environmentOf F ⊢ s ≈ t
+Derivable (freshness F a t) = environmentOf F ⊢ a # t
 
 abbrev decided : Judgement → Bool
 decided (equality F s t) = isEqual (isGiven F) s t
@@ -118,6 +118,7 @@ unfolding swapped
 rejected-not-derivable = none-derivable rejected tt
 
 -- After definition 2.13: σ = [X := ⟨b, Y⟩] and t = a.(a b)·X give a.⟨a, (a b)·Y⟩, which captures.
-pub capturing-example : substitute (replacing X (pair (atom b) (variable Y))) (abstraction a (suspension ((a, b) ∷ []) X)) ≡ abstraction a (pair (atom a) (suspension ((a, b) ∷ []) Y))
+pub capturing-example : substitute (replacing X (pair (atom b) (variable Y))) (abstraction a (suspension ((a, b) ∷ []) X))
+    ≡ abstraction a (pair (atom a) (suspension ((a, b) ∷ []) Y))
 unfolding replacing swapped
 capturing-example = refl

@@ -5,9 +5,10 @@ use mathlib.Core.Path.{_≡_, refl}
 use mathlib.Core.Logic.{_≢_, _↔_, _⊎_, inl, inr}
 use mathlib.Core.List.{[], _∷_}
 use Rattle.permutation.specs.Swaps.{Swaps, act, inverse, Disagree}
-use Rattle.permutation.proofs.Swaps.{by-eq}
+use Rattle.names.proofs.Equal.{by-eq}
 use Rattle.nominal.specs.Tree.{Tree, atom, abstraction, pair, application, suspension, permute}
-use Rattle.nominal.specs.Figure2.{Environment, _⊢_#_, #-pair, #-function-symbol, #-abstraction-1, #-abstraction-2, #-atom, #-suspension, _⊢_≈_, ≈-pair, ≈-function-symbol, ≈-abstraction-1, ≈-abstraction-2, ≈-atom, ≈-suspension}
+use Rattle.nominal.specs.Figure2.{Environment, _⊢_#_, #-pair, #-function-symbol, #-abstraction-1, #-abstraction-2, #-atom, #-suspension, _⊢_≈_, ≈-pair}
+use Rattle.nominal.specs.Figure2.{≈-function-symbol, ≈-abstraction-1, ≈-abstraction-2, ≈-atom, ≈-suspension}
 
 module _ {∇ : Environment} where
   pub fresh-atom : {a b : ℕ} → (∇ ⊢ a # atom b) ↔ (a ≢ b)
@@ -45,7 +46,8 @@ module _ {∇ : Environment} where
   pub from-atom : {a b : ℕ} → ∇ ⊢ atom a ≈ atom b → a ≡ b
   from-atom ≈-atom = refl
 
-  pub from-abstraction : {a b : ℕ} {s t : Tree} → ∇ ⊢ abstraction a s ≈ abstraction b t → ((a ≡ b) × (∇ ⊢ s ≈ t)) ⊎ ((a ≢ b) × (∇ ⊢ s ≈ permute ((a, b) ∷ []) t) × (∇ ⊢ a # t))
+  pub from-abstraction : {a b : ℕ} {s t : Tree} → ∇ ⊢ abstraction a s ≈ abstraction b t
+      → ((a ≡ b) × (∇ ⊢ s ≈ t)) ⊎ ((a ≢ b) × (∇ ⊢ s ≈ permute ((a, b) ∷ []) t) × (∇ ⊢ a # t))
   from-abstraction (≈-abstraction-1 e) = inl (refl, e)
   from-abstraction (≈-abstraction-2 n e h) = inr (n, e, h)
 

@@ -1,16 +1,20 @@
 -- 003's lemmas 2.7 to 2.14 about figure 2's two relations, for any number of atoms and any environment. Where 003's order of proof differs
 -- from the one here: the disagreement law is shown first under an equality, so that transitivity needs no induction on size.
-use Prim.Native.Nat.{ℕ, suc, _+_}
+use Prim.Native.Nat.{ℕ, suc}
 use native.Mathlib.Omega.{arith}
 use mathlib.Core.Path.{_≡_, refl, sym, _∙_, ap}
 use mathlib.Core.Logic.{_≢_, _↔_, _⊎_, inl, inr}
 use mathlib.Core.List.{[], _∷_, _++_}
 use Rattle.permutation.specs.Swaps.{Swaps, swapped, act, inverse, Disagree, Alike}
-use Rattle.permutation.proofs.Swaps.{by-eq, act-append, inverse-act, act-inverse, act-injective, act-distinct, inverse-append, swapped-left, swapped-right, swapped-other, swapped-twice, swapped-symmetric, swapped-conjugate}
+use Rattle.names.proofs.Equal.{by-eq}
+use Rattle.permutation.proofs.Swaps.{act-append, inverse-act, act-inverse, act-injective, act-distinct, inverse-append, swapped-left, swapped-right}
+use Rattle.permutation.proofs.Swaps.{swapped-other, swapped-twice, swapped-symmetric, swapped-conjugate}
 use Rattle.nominal.specs.Tree.{Tree, unit, atom, abstraction, pair, application, suspension, permute, size, Occurs, Substitution, substitute}
-use Rattle.nominal.specs.Figure2.{Environment, _⊢_#_, #-unit, #-pair, #-function-symbol, #-abstraction-1, #-abstraction-2, #-atom, #-suspension, _⊢_≈_, ≈-unit, ≈-pair, ≈-function-symbol, ≈-abstraction-1, ≈-abstraction-2, ≈-atom, ≈-suspension}
+use Rattle.nominal.specs.Figure2.{Environment, _⊢_#_, #-unit, #-pair, #-function-symbol, #-abstraction-1, #-abstraction-2, #-atom, #-suspension, _⊢_≈_}
+use Rattle.nominal.specs.Figure2.{≈-unit, ≈-pair, ≈-function-symbol, ≈-abstraction-1, ≈-abstraction-2, ≈-atom, ≈-suspension}
 use Rattle.nominal.proofs.Tree.{permute-nil, permute-append, size-permute, size-substitute, occurs-permute, substitute-permute}
-use Rattle.nominal.proofs.Figure2.{fresh-atom, fresh-abstraction, fresh-pair, fresh-application, fresh-suspension, from-atom, from-abstraction, from-pair, from-application, from-suspension}
+use Rattle.nominal.proofs.Figure2.{fresh-atom, fresh-abstraction, fresh-pair, fresh-application, fresh-suspension, from-atom, from-abstraction}
+use Rattle.nominal.proofs.Figure2.{from-pair, from-application, from-suspension}
 
 -- More facts derive more.
 module _ {∇ Δ : Environment} (more : (a X : ℕ) → ∇ a X → Δ a X) where
@@ -75,7 +79,9 @@ module _ {∇ : Environment} where
   reopened t a b π ρ φ ih at-b off apart onto =
       by-eq a (act ρ b)
       (λ p. rw p (≈-abstraction-1 (ih ρ (agree ρ (sym p) (λ c n m. refl)))))
-      (λ n. ≈-abstraction-2 n (rw (← permute-append ((a, act ρ b) ∷ []) ρ t) (ih ((a, act ρ b) ∷ ρ) (agree ((a, act ρ b) ∷ ρ) (swapped-right a (act ρ b)) (λ c m k. swapped-other a (act ρ b) (act ρ c) k (act-distinct ρ m)))))
+      (λ n. ≈-abstraction-2 n
+      (rw (← permute-append ((a, act ρ b) ∷ []) ρ t)
+      (ih ((a, act ρ b) ∷ ρ) (agree ((a, act ρ b) ∷ ρ) (swapped-right a (act ρ b)) (λ c m k. swapped-other a (act ρ b) (act ρ c) k (act-distinct ρ m)))))
       (fresh-to ρ (act-inverse ρ a) (away n)))
     where
       agree : (ψ : Swaps) → act ψ b ≡ a → ((c : ℕ) → c ≢ b → act ρ c ≢ a → act ψ c ≡ act ρ c) → (c : ℕ) → Disagree φ ψ c → ∇ ⊢ c # t
@@ -93,14 +99,18 @@ module _ {∇ : Environment} where
   equal-disagreeing unit π ρ h e = e
   equal-disagreeing (atom b) π ρ h e = by-eq (act π b) (act ρ b) (λ p. rw p at e) (λ n. absurd (fresh-atom .0 (h b n) refl))
   equal-disagreeing (abstraction b t) π ρ h (≈-abstraction-1 {s = s} e) =
-      reopened t (act π b) b π ρ π (λ ψ k. equal-disagreeing t π ψ k e) refl (λ c n m. refl) (λ c n. fresh-abstraction .0 (h c n)) (λ c p n. absurd (n (act-injective π p)))
+      reopened t (act π b) b π ρ π (λ ψ k. equal-disagreeing t π ψ k e) refl (λ c n m. refl) (λ c n. fresh-abstraction .0 (h c n))
+      (λ c p n. absurd (n (act-injective π p)))
   equal-disagreeing (abstraction b t) π ρ h (≈-abstraction-2 {a = a} n e k) =
-      reopened t a b π ρ ((a, act π b) ∷ π) (λ ψ j. equal-disagreeing t ((a, act π b) ∷ π) ψ j (rw (← permute-append ((a, act π b) ∷ []) π t) at e)) (swapped-right a (act π b))
+      reopened t a b π ρ ((a, act π b) ∷ π) (λ ψ j. equal-disagreeing t ((a, act π b) ∷ π) ψ j (rw (← permute-append ((a, act π b) ∷ []) π t) at e))
+      (swapped-right a (act π b))
       (λ c m j. swapped-other a (act π b) (act π c) j (act-distinct π m)) (λ c n. fresh-abstraction .0 (h c n)) (λ c p m. fresh-from π c t p k)
-  equal-disagreeing (pair t u) π ρ h (≈-pair e k) = ≈-pair (equal-disagreeing t π ρ (λ c n. fresh-pair .0 (h c n) .0) e) (equal-disagreeing u π ρ (λ c n. fresh-pair .0 (h c n) .1) k)
+  equal-disagreeing (pair t u) π ρ h (≈-pair e k) =
+      ≈-pair (equal-disagreeing t π ρ (λ c n. fresh-pair .0 (h c n) .0) e) (equal-disagreeing u π ρ (λ c n. fresh-pair .0 (h c n) .1) k)
   equal-disagreeing (application f t) π ρ h (≈-function-symbol e) = ≈-function-symbol (equal-disagreeing t π ρ (λ c n. fresh-application .0 (h c n)) e)
   equal-disagreeing (suspension κ X) π ρ h (≈-suspension {π = φ} k) =
-      ≈-suspension {π = φ} {ρ = ρ ++ κ} {X = X} λ a n. by-eq (act (π ++ κ) a) (act (ρ ++ κ) a) (λ p. k a (λ q. n (q ∙ p))) (λ m. rw inverse-act at (fresh-suspension .0 (h (act κ a) (λ p. m (cc (act-append π κ a, act-append ρ κ a))))))
+      ≈-suspension {π = φ} {ρ = ρ ++ κ} {X = X} λ a n. by-eq (act (π ++ κ) a) (act (ρ ++ κ) a) (λ p. k a (λ q. n (q ∙ p)))
+      (λ m. rw inverse-act at (fresh-suspension .0 (h (act κ a) (λ p. m (cc (act-append π κ a, act-append ρ κ a))))))
 
   -- Lists that send every atom alike count as one.
   pub equal-alike : (t : Tree) (π ρ : Swaps) {s : Tree} → Alike π ρ → ∇ ⊢ s ≈ permute π t → ∇ ⊢ s ≈ permute ρ t
@@ -116,7 +126,9 @@ module _ {∇ : Environment} where
       fresh-abstraction .1 λ m. by-eq c a (λ p. rw p k) (λ n. fresh-from ((a, b) ∷ []) c t (swapped-other a b c n m) (equal-fresh e (fresh-abstraction .0 h n)))
   equal-fresh ≈-atom h = h
   equal-fresh {c = c} (≈-suspension {π = π} {ρ = ρ} {X = X} k) (#-suspension h) =
-      #-suspension {a = c} {π = ρ} {X = X} (by-eq (act (inverse ρ) c) (act (inverse π) c) (λ p. rw p h) (λ n. k (act (inverse ρ) c) (λ q. n (cc (act-inverse ρ c, inverse-act π (act (inverse ρ) c))))))
+      #-suspension {a = c} {π = ρ} {X = X}
+      (by-eq (act (inverse ρ) c) (act (inverse π) c) (λ p. rw p h)
+      (λ n. k (act (inverse ρ) c) (λ q. n (cc (act-inverse ρ c, inverse-act π (act (inverse ρ) c))))))
 
   -- 2.11: equality is reflexive.
   pub equal-reflexive : (t : Tree) → ∇ ⊢ t ≈ t
@@ -139,13 +151,16 @@ module _ {∇ : Environment} where
   equal-permute π (≈-abstraction-1 e) = ≈-abstraction-1 (equal-permute π e)
   equal-permute π (≈-abstraction-2 {a = a} {b = b} {s = s} {t = t} n e k) =
       ≈-abstraction-2 {s = permute π s} {t = permute π t} (act-distinct π n)
-      (rw (← permute-append ((act π a, act π b) ∷ []) π t) (equal-alike t (π ++ ((a, b) ∷ [])) ((act π a, act π b) ∷ π) (λ c. act-append π ((a, b) ∷ []) c ∙ swapped-conjugate π a b c) (rw permute-append (equal-permute π e))))
+      (rw (← permute-append ((act π a, act π b) ∷ []) π t)
+      (equal-alike t (π ++ ((a, b) ∷ [])) ((act π a, act π b) ∷ π) (λ c. act-append π ((a, b) ∷ []) c ∙ swapped-conjugate π a b c)
+      (rw permute-append (equal-permute π e))))
       (fresh-permute π k)
   equal-permute π ≈-atom = ≈-atom
   equal-permute π (≈-suspension {π = κ} {ρ = ρ} k) = ≈-suspension {π = π ++ κ} {ρ = π ++ ρ} (λ a n. k a (λ p. n (cc (act-append π κ a, act-append π ρ a))))
 
   -- Three abstractions in a row: (a b)(b c) and (a c) disagree at most at a and b, and both are fresh.
-  chained : (a b c : ℕ) (u : Tree) {s : Tree} → a ≢ b → b ≢ c → ∇ ⊢ s ≈ permute ((a, b) ∷ (b, c) ∷ []) u → ∇ ⊢ a # permute ((b, c) ∷ []) u → ∇ ⊢ b # u → ∇ ⊢ abstraction a s ≈ abstraction c u
+  chained : (a b c : ℕ) (u : Tree) {s : Tree} → a ≢ b → b ≢ c → ∇ ⊢ s ≈ permute ((a, b) ∷ (b, c) ∷ []) u → ∇ ⊢ a # permute ((b, c) ∷ []) u → ∇ ⊢ b # u
+      → ∇ ⊢ abstraction a s ≈ abstraction c u
   chained a b c u {s} n m e h k =
       by-eq a c
       (λ p. rw p (≈-abstraction-1 (rw permute-nil at (equal-alike u ((a, b) ∷ (b, c) ∷ []) [] (λ x. rw (p, swapped-symmetric c b, swapped-twice)) e))))
@@ -168,11 +183,13 @@ module _ {∇ : Environment} where
   equal-transitive (≈-function-symbol e) (≈-function-symbol k) = ≈-function-symbol (equal-transitive e k)
   equal-transitive (≈-abstraction-1 e) (≈-abstraction-1 k) = ≈-abstraction-1 (equal-transitive e k)
   equal-transitive (≈-abstraction-1 e) (≈-abstraction-2 n k h) = ≈-abstraction-2 n (equal-transitive e k) h
-  equal-transitive (≈-abstraction-2 {a = a} {b = b} n e h) (≈-abstraction-1 k) = ≈-abstraction-2 n (equal-transitive e (equal-permute ((a, b) ∷ []) k)) (equal-fresh k h)
+  equal-transitive (≈-abstraction-2 {a = a} {b = b} n e h) (≈-abstraction-1 k) =
+      ≈-abstraction-2 n (equal-transitive e (equal-permute ((a, b) ∷ []) k)) (equal-fresh k h)
   equal-transitive (≈-abstraction-2 {a = a} {b = b} n e h) (≈-abstraction-2 {b = c} {t = u} m k l) =
       chained a b c u n m (rw (← permute-append ((a, b) ∷ []) ((b, c) ∷ []) u) at (equal-transitive e (equal-permute ((a, b) ∷ []) k))) (equal-fresh k h) l
   equal-transitive ≈-atom k = k
-  equal-transitive (≈-suspension {π = π} {ρ = ρ} k) (≈-suspension {ρ = κ} l) = ≈-suspension (λ a n. by-eq (act π a) (act ρ a) (λ p. l a (λ q. n (p ∙ q))) (λ m. k a m))
+  equal-transitive (≈-suspension {π = π} {ρ = ρ} k) (≈-suspension {ρ = κ} l) =
+      ≈-suspension (λ a n. by-eq (act π a) (act ρ a) (λ p. l a (λ q. n (p ∙ q))) (λ m. k a m))
 
   pub equal-alike-left : (t : Tree) (π ρ : Swaps) {u : Tree} → Alike π ρ → ∇ ⊢ permute π t ≈ u → ∇ ⊢ permute ρ t ≈ u
   equal-alike-left t π ρ h e = equal-transitive (equal-alike t ρ π (λ c. sym (h c)) (equal-reflexive (permute ρ t))) e
@@ -189,7 +206,9 @@ module _ {∇ : Environment} where
       turned k =
           ≈-abstraction-2 (λ p. n (sym p))
           (equal-alike s ((a, b) ∷ []) ((b, a) ∷ []) (swapped-symmetric a b)
-          (rw permute-nil at (equal-alike-left t ((a, b) ∷ (a, b) ∷ []) [] (swapped-twice a b) (rw (← permute-append ((a, b) ∷ []) ((a, b) ∷ []) t) at (equal-permute ((a, b) ∷ []) k)))))
+          (rw permute-nil at
+          (equal-alike-left t ((a, b) ∷ (a, b) ∷ []) [] (swapped-twice a b)
+          (rw (← permute-append ((a, b) ∷ []) ((a, b) ∷ []) t) at (equal-permute ((a, b) ∷ []) k)))))
           (equal-fresh k (fresh-to ((a, b) ∷ []) (swapped-left a b) h))
   equal-symmetric ≈-atom = ≈-atom
   equal-symmetric (≈-suspension k) = ≈-suspension (λ a n. k a (λ p. n (sym p)))
@@ -199,17 +218,25 @@ module _ {∇ : Environment} where
   equal-inverse π {s} t = (away, there)
     where
       away : ∇ ⊢ s ≈ permute (inverse π) (permute π t) → ∇ ⊢ s ≈ t
-      away e = rw permute-nil at (equal-alike t (inverse π ++ π) [] (λ c. act-append (inverse π) π c ∙ inverse-act π c) (rw (← permute-append (inverse π) π t) at e))
+      away e =
+          rw permute-nil at (equal-alike t (inverse π ++ π) [] (λ c. act-append (inverse π) π c ∙ inverse-act π c) (rw (← permute-append (inverse π) π t) at e))
 
       there : ∇ ⊢ s ≈ t → ∇ ⊢ s ≈ permute (inverse π) (permute π t)
-      there e = rw (← permute-append (inverse π) π t) (equal-alike t [] (inverse π ++ π) (λ c. cc (act-append (inverse π) π c, inverse-act π c)) (rw permute-nil e))
+      there e =
+          rw (← permute-append (inverse π) π t) (equal-alike t [] (inverse π ++ π) (λ c. cc (act-append (inverse π) π c, inverse-act π c)) (rw permute-nil e))
 
   -- 2.12 (2), read from right to left: a permutation crosses over as its inverse.
   pub equal-moved : (π : Swaps) (s t : Tree) → (∇ ⊢ permute π s ≈ t) ↔ (∇ ⊢ s ≈ permute (inverse π) t)
-  equal-moved π s t = (λ e. equal-transitive (equal-inverse π s .1 (equal-reflexive s)) (equal-permute (inverse π) e), λ e. equal-symmetric (there (equal-symmetric (equal-permute π e))))
+  equal-moved π s t = (
+    λ e. equal-transitive (equal-inverse π s .1 (equal-reflexive s)) (equal-permute (inverse π) e),
+    λ e. equal-symmetric
+        (there (equal-symmetric (equal-permute π e))),
+  )
     where
       there : {u : Tree} → ∇ ⊢ permute π (permute (inverse π) t) ≈ u → ∇ ⊢ t ≈ u
-      there k = rw permute-nil at (equal-alike-left t (π ++ inverse π) [] (λ c. act-append π (inverse π) c ∙ act-inverse π c) (rw (← permute-append π (inverse π) t) at k))
+      there k =
+          rw permute-nil at
+          (equal-alike-left t (π ++ inverse π) [] (λ c. act-append π (inverse π) c ∙ act-inverse π c) (rw (← permute-append π (inverse π) t) at k))
 
   -- (9), back.
   pub equal-unpermute : (π : Swaps) (s t : Tree) → ∇ ⊢ permute π s ≈ permute π t → ∇ ⊢ s ≈ t
@@ -217,12 +244,14 @@ module _ {∇ : Environment} where
 
   -- The abstraction case of the law below.
   closed : (t : Tree) (b c : ℕ) (π ρ : Swaps) → ((ψ : Swaps) → ∇ ⊢ permute π t ≈ permute ψ t → Disagree π ψ c → ∇ ⊢ c # t) → Disagree π ρ c → c ≢ b
-      → ((act π b ≡ act ρ b) × (∇ ⊢ permute π t ≈ permute ρ t)) ⊎ ((act π b ≢ act ρ b) × (∇ ⊢ permute π t ≈ permute ((act π b, act ρ b) ∷ []) (permute ρ t)) × (∇ ⊢ act π b # permute ρ t))
+      → ((act π b ≡ act ρ b) × (∇ ⊢ permute π t ≈ permute ρ t))
+      ⊎ ((act π b ≢ act ρ b) × (∇ ⊢ permute π t ≈ permute ((act π b, act ρ b) ∷ []) (permute ρ t)) × (∇ ⊢ act π b # permute ρ t))
       → ∇ ⊢ c # t
   closed t b c π ρ ih n m (inl h) = ih ρ (h .1) n
   closed t b c π ρ ih n m (inr h) =
       by-eq (act ρ c) (act π b) (λ p. fresh-from ρ c t p (h .2)) λ u.
-      ih ((act π b, act ρ b) ∷ ρ) (rw (← permute-append ((act π b, act ρ b) ∷ []) ρ t) at (h .1)) (λ p. n (p ∙ swapped-other (act π b) (act ρ b) (act ρ c) u (act-distinct ρ m)))
+      ih ((act π b, act ρ b) ∷ ρ) (rw (← permute-append ((act π b, act ρ b) ∷ []) ρ t) at (h .1))
+      (λ p. n (p ∙ swapped-other (act π b) (act ρ b) (act ρ c) u (act-distinct ρ m)))
 
   -- 2.12 (3), the disagreement law read backwards.
   pub fresh-where-equal : (t : Tree) (π ρ : Swaps) (c : ℕ) → ∇ ⊢ permute π t ≈ permute ρ t → Disagree π ρ c → ∇ ⊢ c # t
@@ -231,7 +260,9 @@ module _ {∇ : Environment} where
   fresh-where-equal (abstraction b t) π ρ c e n = fresh-abstraction .1 (λ m. closed t b c π ρ (λ ψ. fresh-where-equal t π ψ c) n m (from-abstraction e))
   fresh-where-equal (pair s t) π ρ c e n = #-pair (fresh-where-equal s π ρ c (from-pair e .0) n) (fresh-where-equal t π ρ c (from-pair e .1) n)
   fresh-where-equal (application f t) π ρ c e n = #-function-symbol (fresh-where-equal t π ρ c (from-application e .1) n)
-  fresh-where-equal (suspension κ X) π ρ c e n = #-suspension (from-suspension e .1 (act (inverse κ) c) (λ p. n (cc (act-append π κ (act (inverse κ) c), act-append ρ κ (act (inverse κ) c), act-inverse κ c))))
+  fresh-where-equal (suspension κ X) π ρ c e n =
+      #-suspension
+      (from-suspension e .1 (act (inverse κ) c) (λ p. n (cc (act-append π κ (act (inverse κ) c), act-append ρ κ (act (inverse κ) c), act-inverse κ c))))
 
   -- 003, after definition 2.10: equal trees have one size.
   pub equal-size : {s t : Tree} → ∇ ⊢ s ≈ t → size s ≡ size t
@@ -264,7 +295,8 @@ module _ {∇ : Environment} where
   equal-substitutions σ τ (suspension π X) h = equal-permute π (h X refl)
 
   -- The occurs check: no substitution makes a variable equal to a larger tree that holds it.
-  pub no-circle : (σ : Substitution) (π : Swaps) (X : ℕ) (t : Tree) → Occurs X t → ((ρ : Swaps) → t ≢ suspension ρ X) → ∇ ⊢ substitute σ (suspension π X) ≈ substitute σ t → ⊥
+  pub no-circle : (σ : Substitution) (π : Swaps) (X : ℕ) (t : Tree) → Occurs X t → ((ρ : Swaps) → t ≢ suspension ρ X)
+      → ∇ ⊢ substitute σ (suspension π X) ≈ substitute σ t → ⊥
   no-circle σ π X unit o n e = o
   no-circle σ π X (atom a) o n e = o
   no-circle σ π X (abstraction a t) o n e = omega (arith, size-permute π (σ X), equal-size e, size-substitute σ X t o)

@@ -1,16 +1,16 @@
 -- One more binding: what [X := t] done after an idempotent substitution that leaves X as it is gives. It is idempotent again, satisfied by
 -- exactly the pairs that satisfied the old one and take X and t for equal, and allowed where X is not protected.
-use Prim.Native.Nat.{ℕ, suc, _+_}
-use native.Mathlib.Omega.{arith}
-use mathlib.Core.Path.{_≡_, refl, sym, _∙_, ap}
+use Prim.Native.Nat.{ℕ}
+use mathlib.Core.Path.{_≡_, refl, sym, _∙_}
 use mathlib.Core.Logic.{_≢_, _↔_, inl, inr}
 use mathlib.Core.List.{[], _++_, append-nil, append-cancel-left}
 use borrow.Author.Tests.{eq-eqb, ne-eqb}
 use Rattle.permutation.specs.Swaps.{Swaps}
-use Rattle.permutation.proofs.Swaps.{by-eq}
-use Rattle.nominal.specs.Tree.{Tree, unit, atom, abstraction, pair, application, suspension, variable, permute, Occurs, Substitution, substitute, composed, replacing}
+use Rattle.names.proofs.Equal.{by-eq}
+use Rattle.nominal.specs.Tree.{Tree, unit, atom, abstraction, pair, application, suspension, variable, permute, Occurs, Substitution, substitute}
+use Rattle.nominal.specs.Tree.{composed, replacing}
 use Rattle.nominal.specs.Figure2.{Environment, _⊢_≈_}
-use Rattle.nominal.specs.Solutions.{Satisfies, Idempotent, protecting}
+use Rattle.nominal.specs.Solutions.{Satisfies}
 use Rattle.nominal.proofs.Tree.{permute-nil, substitute-variable, substitute-composed, substitute-agree}
 use Rattle.nominal.proofs.Laws.{equal-reflexive, equal-symmetric, equal-transitive}
 use Rattle.nominal.proofs.Solutions.{satisfies-tree}
@@ -26,10 +26,6 @@ replacing-other X t Y n = rw (ne-eqb Y X n)
 -- Where X does not occur, nothing is replaced.
 pub replacing-absent : (X : ℕ) (t u : Tree) → (Occurs X u → ⊥) → substitute (replacing X t) u ≡ u
 replacing-absent X t u absent = substitute-agree (replacing X t) variable u (λ Z o. replacing-other X t Z (λ q. absent (rw q at o))) ∙ substitute-variable u
-
--- Idempotent on every variable, so on every tree.
-pub idempotent-tree : (σ : Substitution) → Idempotent σ → (t : Tree) → substitute σ (substitute σ t) ≡ substitute σ t
-idempotent-tree σ once t = substitute-composed σ σ t ∙ substitute-agree (composed σ σ) σ t (λ X o. once X)
 
 -- A tree that σ leaves as it is holds only variables that σ leaves as they are.
 fixed-suspension : (π : Swaps) (X : ℕ) (t : Tree) → permute π t ≡ suspension π X → t ≡ variable X
@@ -64,22 +60,6 @@ module _ (σ : Substitution) (X : ℕ) (t : Tree) where
   pub extended-tree : (u : Tree) → substitute extended u ≡ substitute (replacing X t) (substitute σ u)
   extended-tree u = sym (substitute-composed (replacing X t) σ u)
 
-  pub extended-idempotent : Idempotent σ → substitute σ t ≡ t → (Occurs X t → ⊥) → Idempotent extended
-  extended-idempotent once fixed absent Y = extended-tree (extended Y) ∙ (ap (substitute (replacing X t)) one ∙ two)
-    where
-      -- σ leaves what is left of variables in σY as it is, and t too.
-      one : substitute σ (extended Y) ≡ extended Y
-      one =
-          substitute-composed σ (replacing X t) (σ Y)
-          ∙ substitute-agree (composed σ (replacing X t)) (replacing X t) (σ Y)
-          (λ Z o. by-eq Z X (λ q. rw (q, replacing-same) fixed) (λ n. rw (replacing-other X t Z n) (permute-nil (σ Z) ∙ fixed-variable σ Z (σ Y) (once Y) o)))
-
-      two : substitute (replacing X t) (extended Y) ≡ extended Y
-      two =
-          substitute-composed (replacing X t) (replacing X t) (σ Y)
-          ∙ substitute-agree (composed (replacing X t) (replacing X t)) (replacing X t) (σ Y)
-          (λ Z o. by-eq Z X (λ q. rw (q, replacing-same) (replacing-absent X t t absent)) (λ n. rw (replacing-other X t Z n) (permute-nil (replacing X t Z) ∙ replacing-other X t Z n)))
-
   module _ {∇ : Environment} (τ : Substitution) where
     pub replacing-satisfied : ∇ ⊢ τ X ≈ substitute τ t → Satisfies ∇ τ (replacing X t)
     replacing-satisfied h Y = by-eq Y X (λ q. rw (q, replacing-same) h) (λ n. rw (replacing-other X t Y n, permute-nil) (equal-reflexive (τ Y)))
@@ -92,9 +72,3 @@ module _ (σ : Substitution) (X : ℕ) (t : Tree) where
       where
         at-X : Satisfies ∇ τ extended → ∇ ⊢ τ X ≈ substitute τ t
         at-X k = rw (free, permute-nil, replacing-same) at (k X)
-
-  pub extended-allowed : (isProtected : ℕ → Type 0) → (isProtected X → ⊥) → protecting isProtected .allowsSubstitution σ → protecting isProtected .allowsSubstitution extended
-  extended-allowed isProtected unprotected a = (
-    (suc X + a .0 .0, λ Y l. extended-other Y (λ q. omega arith) (a .0 .1 Y (omega arith))),
-    λ Y p. extended-other Y (λ q. unprotected (rw q at p)) (a .1 Y p),
-  )

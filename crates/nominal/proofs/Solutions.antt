@@ -1,13 +1,14 @@
 -- Laws of solutions and instances over any allowance: what they do not see (order, repetition, equal substitutions), that instances of a
 -- solution are solutions, and which pairs are the instances of an answer.
-use Prim.Native.Nat.{ℕ, _+_}
-use native.Mathlib.Omega.{arith}
-use mathlib.Core.Path.{_≡_, refl}
-use mathlib.Core.Logic.{_↔_, Iff·trans}
+use Prim.Native.Nat.{ℕ}
+use mathlib.Core.Path.{refl}
+use mathlib.Core.Logic.{_↔_}
 use mathlib.Core.List.{List, [], _∷_, _++_, List·Memᴰ, List·Memᴰ·head, List·Memᴰ·tail}
 use Rattle.nominal.specs.Tree.{Tree, variable, Substitution, substitute, composed}
 use Rattle.nominal.specs.Figure2.{Environment, _⊢_#_, _⊢_≈_, #-suspension}
-use Rattle.nominal.specs.Solutions.{Every, Facts, given, Allowed, Allowance, protecting, Demand, Equation, Problem, Meets, Equates, Solves, Answer, Holds, Instance, EquallyGeneral, Answers, Satisfies, Idempotent, Unbound}
+use Rattle.nominal.specs.Solutions.{Every, Facts, environmentOf, Allowance, protecting, TreeDemand, TreeEquation, TreeProblem, Meets, Equates, Solves}
+use Rattle.nominal.specs.Solutions.{Answer, Holds}
+use Rattle.nominal.specs.Solutions.{Instance, EquallyGeneral, Answers, Satisfies, Idempotent, Unbound}
 use Rattle.nominal.proofs.Tree.{permute-nil, substitute-variable, substitute-composed}
 use Rattle.nominal.proofs.Figure2.{fresh-suspension}
 use Rattle.nominal.proofs.Laws.{equal-reflexive, equal-symmetric, equal-transitive, equal-fresh, equal-substitutions, fresh-substitute, equal-substitute}
@@ -35,7 +36,8 @@ module _ {A : Type 0} (P : A → Type 0) where
   every-map Q f (x ∷ l) h = (f x (h .0), every-map Q f l (h .1))
 
 -- A problem's fields in another order, or repeated, have the same solutions.
-pub solves-among : (∇ : Environment) (τ : Substitution) (P Q : Problem) → ((d : Demand) → List·Memᴰ d (Q .demands) → List·Memᴰ d (P .demands)) → ((e : Equation) → List·Memᴰ e (Q .equations) → List·Memᴰ e (P .equations))
+pub solves-among : (∇ : Environment) (τ : Substitution) (P Q : TreeProblem) → ((d : TreeDemand) → List·Memᴰ d (Q .demands) → List·Memᴰ d (P .demands))
+    → ((e : TreeEquation) → List·Memᴰ e (Q .equations) → List·Memᴰ e (P .equations))
     → Solves ∇ τ P → Solves ∇ τ Q
 solves-among ∇ τ P Q among-demands among-equations h =
     (every-among (Meets ∇ τ) (P .demands) (Q .demands) among-demands (h .0), every-among (Equates ∇ τ) (P .equations) (Q .equations) among-equations (h .1))
@@ -45,50 +47,53 @@ module _ {∇ : Environment} (ψ τ : Substitution) (equal : (X : ℕ) → ∇ �
   pub equal-everywhere : (t : Tree) → ∇ ⊢ substitute ψ t ≈ substitute τ t
   equal-everywhere t = equal-substitutions ψ τ t (λ X o. equal X)
 
-  pub meets-equal : (d : Demand) → Meets ∇ ψ d → Meets ∇ τ d
+  pub meets-equal : (d : TreeDemand) → Meets ∇ ψ d → Meets ∇ τ d
   meets-equal d h = equal-fresh (equal-everywhere (d .1)) h
 
-  pub equates-equal : (e : Equation) → Equates ∇ ψ e → Equates ∇ τ e
+  pub equates-equal : (e : TreeEquation) → Equates ∇ ψ e → Equates ∇ τ e
   equates-equal e h = equal-transitive (equal-symmetric (equal-everywhere (e .0))) (equal-transitive h (equal-everywhere (e .1)))
 
-  pub solves-equal : (P : Problem) → Solves ∇ ψ P → Solves ∇ τ P
-  solves-equal P h = (every-map (Meets ∇ ψ) (Meets ∇ τ) meets-equal (P .demands) (h .0), every-map (Equates ∇ ψ) (Equates ∇ τ) equates-equal (P .equations) (h .1))
+  pub solves-equal : (P : TreeProblem) → Solves ∇ ψ P → Solves ∇ τ P
+  solves-equal P h =
+      (every-map (Meets ∇ ψ) (Meets ∇ τ) meets-equal (P .demands) (h .0), every-map (Equates ∇ ψ) (Equates ∇ τ) equates-equal (P .equations) (h .1))
 
   pub instance-equal : (A : Allowance) (q : Answer) → Instance A ∇ ψ q → Instance A ∇ τ q
   instance-equal A q n = (n .0, n .1, λ X. equal-transitive (n .2 X) (equal X), n .3)
 
 -- Where Δ derives the facts of ∇ after ψ, ψ done after a solution solves too (003, lemma 2.14).
 module _ {∇ Δ : Environment} (ψ : Substitution) (facts : (a X : ℕ) → ∇ a X → Δ ⊢ a # ψ X) (τ : Substitution) where
-  pub meets-after : (d : Demand) → Meets ∇ τ d → Meets Δ (composed ψ τ) d
+  pub meets-after : (d : TreeDemand) → Meets ∇ τ d → Meets Δ (composed ψ τ) d
   meets-after d h = rw substitute-composed at (fresh-substitute ψ facts h)
 
-  pub equates-after : (e : Equation) → Equates ∇ τ e → Equates Δ (composed ψ τ) e
+  pub equates-after : (e : TreeEquation) → Equates ∇ τ e → Equates Δ (composed ψ τ) e
   equates-after e h = simp substitute-composed at (equal-substitute ψ facts h)
 
-  pub solves-after : (P : Problem) → Solves ∇ τ P → Solves Δ (composed ψ τ) P
-  solves-after P h = (every-map (Meets ∇ τ) (Meets Δ (composed ψ τ)) meets-after (P .demands) (h .0), every-map (Equates ∇ τ) (Equates Δ (composed ψ τ)) equates-after (P .equations) (h .1))
+  pub solves-after : (P : TreeProblem) → Solves ∇ τ P → Solves Δ (composed ψ τ) P
+  solves-after P h = (
+    every-map (Meets ∇ τ) (Meets Δ (composed ψ τ)) meets-after (P .demands) (h .0),
+    every-map (Equates ∇ τ) (Equates Δ (composed ψ τ)) equates-after
+        (P .equations) (h .1),
+  )
 
 -- An instance of an answer that solves the problem solves it.
-pub instance-solves : (A : Allowance) {Δ : Environment} (τ : Substitution) (q : Answer) (P : Problem) → Solves (given (q .facts)) (q .substitution) P → Instance A Δ τ q → Solves Δ τ P
-instance-solves A {Δ} τ q P s n = solves-equal (composed (n .0) (q .substitution)) τ (n .2) P (solves-after (n .0) (λ a X m. every-at (Holds Δ (n .0)) m (n .3)) (q .substitution) P s)
+pub instance-solves : (A : Allowance) {Δ : Environment} (τ : Substitution) (q : Answer) (P : TreeProblem)
+    → Solves (environmentOf (q .facts)) (q .substitution) P
+    → Instance A Δ τ q → Solves Δ τ P
+instance-solves A {Δ} τ q P s n =
+    solves-equal (composed (n .0) (q .substitution)) τ (n .2) P (solves-after (n .0) (λ a X m. every-at (Holds Δ (n .0)) m (n .3)) (q .substitution) P s)
 
 -- Every answer is an instance of itself, if leaving all variables as they are is allowed.
-pub own-instance : (A : Allowance) → A .allowsSubstitution variable → (q : Answer) → Instance A (given (q .facts)) (q .substitution) q
-own-instance A still q =
-    (variable, still, λ X. rw substitute-variable (equal-reflexive (q .substitution X)), every-of (Holds (given (q .facts)) variable) (q .facts) (λ f m. #-suspension m))
-
--- Equally general answers: an equivalence, as "the same" should be.
-pub equally-general-reflexive : (A : Allowance) (q : Answer) → EquallyGeneral A q q
-equally-general-reflexive A q F τ a = (λ n. n, λ n. n)
-
-pub equally-general-symmetric : (A : Allowance) (q r : Answer) → EquallyGeneral A q r → EquallyGeneral A r q
-equally-general-symmetric A q r h F τ a = (h F τ a .1, h F τ a .0)
-
-pub equally-general-transitive : (A : Allowance) (q r s : Answer) → EquallyGeneral A q r → EquallyGeneral A r s → EquallyGeneral A q s
-equally-general-transitive A q r s h k F τ a = (λ n. k F τ a .0 (h F τ a .0 n), λ n. h F τ a .1 (k F τ a .1 n))
+pub own-instance : (A : Allowance) → A .allowsSubstitution variable → (q : Answer) → Instance A (environmentOf (q .facts)) (q .substitution) q
+own-instance A still q = (
+  variable,
+  still,
+  λ X. rw substitute-variable (equal-reflexive (q .substitution X)),
+  every-of (Holds (environmentOf (q .facts)) variable) (q .facts)
+      (λ f m. #-suspension m),
+)
 
 -- Two answers whose allowed instances are the solutions of one problem are equally general.
-pub answers-equally-general : (A : Allowance) (P : Problem) (q r : Answer) → Answers A P q → Answers A P r → EquallyGeneral A q r
+pub answers-equally-general : (A : Allowance) (P : TreeProblem) (q r : Answer) → Answers A P q → Answers A P r → EquallyGeneral A q r
 answers-equally-general A P q r h k F τ a = (λ n. k F τ a .0 (h F τ a .1 n), λ n. h F τ a .0 (k F τ a .1 n))
 
 -- Under the bindings a tree and its value are equal.
@@ -104,41 +109,23 @@ module _ (A : Allowance) {∇ : Environment} (τ : Substitution) (q : Answer) wh
   module _ (once : Idempotent (q .substitution)) where
     pub instance-satisfies : Instance A ∇ τ q → Satisfies ∇ τ (q .substitution)
     instance-satisfies n X =
-        equal-transitive (equal-symmetric (n .2 X)) (equal-transitive (twice X) (equal-everywhere (composed (n .0) (q .substitution)) τ (n .2) (q .substitution X)))
+        equal-transitive (equal-symmetric (n .2 X))
+        (equal-transitive (twice X) (equal-everywhere (composed (n .0) (q .substitution)) τ (n .2) (q .substitution X)))
       where
         twice : (X : ℕ) → ∇ ⊢ substitute (n .0) (q .substitution X) ≈ substitute (composed (n .0) (q .substitution)) (q .substitution X)
         twice X = rw (← substitute-composed (n .0) (q .substitution) (q .substitution X), once X) (equal-reflexive (substitute (n .0) (q .substitution X)))
 
     pub instance-holds : Every (Unbound (q .substitution)) (q .facts) → Instance A ∇ τ q → Every (Holds ∇ τ) (q .facts)
-    instance-holds free n = every-of (Holds ∇ τ) (q .facts) (λ f m. equal-fresh (n .2 (f .1)) (rw (every-at (Unbound (q .substitution)) m free, permute-nil) (every-at (Holds ∇ (n .0)) m (n .3))))
+    instance-holds free n =
+        every-of (Holds ∇ τ) (q .facts)
+        (λ f m. equal-fresh (n .2 (f .1)) (rw (every-at (Unbound (q .substitution)) m free, permute-nil) (every-at (Holds ∇ (n .0)) m (n .3))))
 
-    pub instance-exactly : A .allowsSubstitution τ → Every (Unbound (q .substitution)) (q .facts) → (Satisfies ∇ τ (q .substitution) × Every (Holds ∇ τ) (q .facts)) ↔ Instance A ∇ τ q
+    pub instance-exactly : A .allowsSubstitution τ → Every (Unbound (q .substitution)) (q .facts)
+        → (Satisfies ∇ τ (q .substitution) × Every (Holds ∇ τ) (q .facts)) ↔ Instance A ∇ τ q
     instance-exactly a free = (λ h. instance-of a (h .0) (h .1), λ n. (instance-satisfies n, instance-holds free n))
-
--- An idempotent answer is the problem's if the problem's allowed solutions are the allowed pairs that satisfy its substitution and derive its
--- facts.
-pub answers-of : (A : Allowance) (P : Problem) (q : Answer) → Idempotent (q .substitution) → Every (Unbound (q .substitution)) (q .facts)
-    → ((F : Facts) (τ : Substitution) → Allowed A F τ → Solves (given F) τ P ↔ (Satisfies (given F) τ (q .substitution) × Every (Holds (given F) τ) (q .facts))) → Answers A P q
-answers-of A P q once free h F τ a = Iff·trans (h F τ a) (instance-exactly A τ q once (a .1) free)
-
--- The problem's answer, if it is itself allowed, solves the problem.
-pub answer-solves : (A : Allowance) (P : Problem) (q : Answer) → A .allowsSubstitution variable → Allowed A (q .facts) (q .substitution) → Answers A P q → Solves (given (q .facts)) (q .substitution) P
-answer-solves A P q still a h = h (q .facts) (q .substitution) a .1 (own-instance A still q)
 
 -- Substituting nothing, as the judge does: a solution is that all is derivable as it stands, and a fact holds if it is given.
 module _ (∇ : Environment) where
-  pub solves-variable : (P : Problem) → Solves ∇ variable P ↔ (Every (λ d. ∇ ⊢ d .0 # d .1) (P .demands) × Every (λ e. ∇ ⊢ e .0 ≈ e .1) (P .equations))
-  solves-variable P = (
-    λ h. (
-      every-map (Meets ∇ variable) (λ d. ∇ ⊢ d .0 # d .1) (λ d k. rw substitute-variable at k) (P .demands) (h .0),
-      every-map (Equates ∇ variable) (λ e. ∇ ⊢ e .0 ≈ e .1) (λ e k. simp substitute-variable at k) (P .equations) (h .1),
-    ),
-    λ h. (
-      every-map (λ d. ∇ ⊢ d .0 # d .1) (Meets ∇ variable) (λ d k. rw substitute-variable k) (P .demands) (h .0),
-      every-map (λ e. ∇ ⊢ e .0 ≈ e .1) (Equates ∇ variable) (λ e k. simp substitute-variable k) (P .equations) (h .1),
-    ),
-  )
-
   pub holds-variable : (F : Facts) → Every (Holds ∇ variable) F ↔ Every (λ f. ∇ (f .0) (f .1)) F
   holds-variable F = (
     every-map (Holds ∇ variable) (λ f. ∇ (f .0) (f .1)) (λ f k. fresh-suspension .0 k) F,
@@ -149,9 +136,3 @@ module _ (∇ : Environment) where
 module _ (isProtected : ℕ → Type 0) where
   pub protecting-variable : protecting isProtected .allowsSubstitution variable
   protecting-variable = ((0, λ X h. refl), λ X p. refl)
-
-  pub protecting-composed : (τ σ : Substitution) → protecting isProtected .allowsSubstitution τ → protecting isProtected .allowsSubstitution σ → protecting isProtected .allowsSubstitution (composed τ σ)
-  protecting-composed τ σ h k = ((h .0 .0 + k .0 .0, λ X l. one X (k .0 .1 X (omega arith)) (h .0 .1 X (omega arith))), λ X p. one X (k .1 X p) (h .1 X p))
-    where
-      one : (X : ℕ) → σ X ≡ variable X → τ X ≡ variable X → composed τ σ X ≡ variable X
-      one X e f = rw (e, permute-nil) f

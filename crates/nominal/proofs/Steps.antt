@@ -4,14 +4,16 @@ use Prim.Native.Nat.{ℕ}
 use mathlib.Core.Path.{_≡_, refl, sym, _∙_, ap}
 use mathlib.Core.Logic.{_≢_, _↔_}
 use mathlib.Core.List.{[], _∷_}
-use Rattle.permutation.specs.Swaps.{Swaps, act, inverse, Disagree}
+use Rattle.permutation.specs.Swaps.{Swaps, inverse, Disagree}
 use Rattle.nominal.specs.Tree.{Tree, unit, atom, abstraction, pair, application, suspension, variable, permute, Occurs, Substitution, substitute}
-use Rattle.nominal.specs.Figure2.{Environment, _⊢_#_, _⊢_≈_, #-unit, ≈-unit, ≈-pair, ≈-function-symbol, ≈-abstraction-1, ≈-abstraction-2, ≈-atom, ≈-suspension}
+use Rattle.nominal.specs.Figure2.{Environment, _⊢_≈_, ≈-unit, ≈-pair, ≈-function-symbol, ≈-abstraction-1, ≈-abstraction-2, ≈-atom}
+use Rattle.nominal.specs.Figure2.{≈-suspension}
 use Rattle.nominal.specs.Form.{form}
 use Rattle.nominal.specs.Solutions.{Meets, Equates}
 use Rattle.nominal.proofs.Tree.{permute-nil, substitute-permute}
-use Rattle.nominal.proofs.Figure2.{fresh-atom, fresh-abstraction, fresh-pair, fresh-application, from-atom, from-abstraction-same, from-abstraction-other, from-pair, from-application, from-suspension}
-use Rattle.nominal.proofs.Laws.{fresh-inverse, equal-symmetric, equal-where-fresh, fresh-where-equal, equal-moved, no-circle}
+use Rattle.nominal.proofs.Figure2.{from-atom, from-abstraction-same}
+use Rattle.nominal.proofs.Figure2.{from-abstraction-other, from-pair, from-application, from-suspension}
+use Rattle.nominal.proofs.Laws.{equal-symmetric, equal-where-fresh, fresh-where-equal, equal-moved, no-circle}
 
 pub form-permute : (π : Swaps) (t : Tree) → form (permute π t) ≡ form t
 form-permute π unit = refl
@@ -57,8 +59,10 @@ module _ {∇ : Environment} (τ : Substitution) where
   step-abstraction-same a s t = (λ e. from-abstraction-same e, λ e. ≈-abstraction-1 e)
 
   -- (≈?-abstraction-2)
-  pub step-abstraction-other : (a b : ℕ) (s t : Tree) → a ≢ b → Equates ∇ τ (abstraction a s, abstraction b t) ↔ (Equates ∇ τ (s, permute ((a, b) ∷ []) t) × Meets ∇ τ (a, t))
-  step-abstraction-other a b s t n = (λ e. let h = from-abstraction-other n e in (rw substitute-permute (h .0), h .1), λ h. ≈-abstraction-2 n (rw substitute-permute at (h .0)) (h .1))
+  pub step-abstraction-other : (a b : ℕ) (s t : Tree) → a ≢ b
+      → Equates ∇ τ (abstraction a s, abstraction b t) ↔ (Equates ∇ τ (s, permute ((a, b) ∷ []) t) × Meets ∇ τ (a, t))
+  step-abstraction-other a b s t n =
+      (λ e. let h = from-abstraction-other n e in (rw substitute-permute (h .0), h .1), λ h. ≈-abstraction-2 n (rw substitute-permute at (h .0)) (h .1))
 
   -- (≈?-suspension): "each atom of the disagreement set is demanded fresh for X".
   pub step-suspension : (π ρ : Swaps) (X : ℕ) → Equates ∇ τ (suspension π X, suspension ρ X) ↔ ((a : ℕ) → Disagree π ρ a → Meets ∇ τ (a, variable X))
@@ -92,23 +96,3 @@ module _ {∇ : Environment} (τ : Substitution) where
 
   pub two-protected-refused : (π ρ : Swaps) (X Y : ℕ) → τ X ≡ variable X → τ Y ≡ variable Y → X ≢ Y → Equates ∇ τ (suspension π X, suspension ρ Y) → ⊥
   two-protected-refused π ρ X Y left right n e = n (from-suspension (rw (left, right) at e) .0)
-
-  -- Demands, rule by rule: "a is fresh for unit, for another atom, for a pair or application if for its parts, for [a]t always, for [b]t if for t,
-  -- and for a suspension if the atom sent to a is fresh for its variable".
-  pub demand-unit : (a : ℕ) → Meets ∇ τ (a, unit)
-  demand-unit a = #-unit
-
-  pub demand-atom : (a b : ℕ) → Meets ∇ τ (a, atom b) ↔ (a ≢ b)
-  demand-atom a b = fresh-atom
-
-  pub demand-abstraction : (a b : ℕ) (t : Tree) → Meets ∇ τ (a, abstraction b t) ↔ (a ≢ b → Meets ∇ τ (a, t))
-  demand-abstraction a b t = fresh-abstraction
-
-  pub demand-pair : (a : ℕ) (s t : Tree) → Meets ∇ τ (a, pair s t) ↔ (Meets ∇ τ (a, s) × Meets ∇ τ (a, t))
-  demand-pair a s t = fresh-pair
-
-  pub demand-application : (a f : ℕ) (t : Tree) → Meets ∇ τ (a, application f t) ↔ Meets ∇ τ (a, t)
-  demand-application a f t = fresh-application
-
-  pub demand-suspension : (a : ℕ) (π : Swaps) (X : ℕ) → Meets ∇ τ (a, suspension π X) ↔ Meets ∇ τ (act (inverse π) a, variable X)
-  demand-suspension a π X = rw (permute-nil (τ X)) (fresh-inverse π a (τ X))

@@ -6,7 +6,8 @@ use mathlib.Core.List.{[], _++_, append-assoc, append-nil}
 use native.Mathlib.Omega.{arith}
 use Rattle.permutation.specs.Swaps.{Swaps, act}
 use Rattle.permutation.proofs.Swaps.{act-append}
-use Rattle.nominal.specs.Tree.{Tree, unit, atom, abstraction, pair, application, suspension, variable, permute, size, Occurs, Substitution, substitute, composed}
+use Rattle.nominal.specs.Tree.{Tree, unit, atom, abstraction, pair, application, suspension, variable, permute, size, Occurs, Substitution, substitute}
+use Rattle.nominal.specs.Tree.{composed}
 
 -- Permutations act on trees as a monoid: the empty list does nothing, an appended list is one after the other.
 pub permute-nil : (t : Tree) → permute [] t ≡ t

@@ -10,22 +10,22 @@ use Rattle.permutation.specs.Swaps.{atoms}
 use Rattle.nominal.specs.Tree.{Tree, unit, atom, abstraction, pair, application, suspension}
 
 -- "ground terms (i.e. terms with no variables and hence no suspensions)"
-abbrev pub Ground : Tree → Type 0
-Ground unit = Unit {0}
-Ground (atom a) = Unit {0}
-Ground (abstraction a t) = Ground t
-Ground (pair s t) = Ground s × Ground t
-Ground (application f t) = Ground t
-Ground (suspension π X) = ⊥
+abbrev pub GroundTree : Tree → Type 0
+GroundTree unit = Unit {0}
+GroundTree (atom a) = Unit {0}
+GroundTree (abstraction a t) = GroundTree t
+GroundTree (pair s t) = GroundTree s × GroundTree t
+GroundTree (application f t) = GroundTree t
+GroundTree (suspension π X) = ⊥
 
 -- "the set FA(t) of free atoms of t": a is in it.
-abbrev pub Free : ℕ → Tree → Type 0
-Free a unit = ⊥
-Free a (atom b) = a ≡ b
-Free a (abstraction b t) = Free a t × (a ≢ b)
-Free a (pair s t) = Free a s ⊎ Free a t
-Free a (application f t) = Free a t
-Free a (suspension π X) = ⊥
+abbrev pub FreeIn : ℕ → Tree → Type 0
+FreeIn a unit = ⊥
+FreeIn a (atom b) = a ≡ b
+FreeIn a (abstraction b t) = FreeIn a t × (a ≢ b)
+FreeIn a (pair s t) = FreeIn a s ⊎ FreeIn a t
+FreeIn a (application f t) = FreeIn a t
+FreeIn a (suspension π X) = ⊥
 
 -- "an atom not occurring at all in the term t", neither free nor bound nor binding.
 abbrev pub Absent : ℕ → Tree → Type 0

@@ -20,8 +20,8 @@ Fact = ℕ × ℕ
 abbrev pub Facts : Type 0
 Facts = List Fact
 
-abbrev pub given : Facts → Environment
-given F a X = List·Memᴰ (a, X) F
+abbrev pub environmentOf : Facts → Environment
+environmentOf F a X = List·Memᴰ (a, X) F
 
 -- 003, definition 2.13: a substitution has "the property that σ(X) = X for all but finitely many variables X". Variables are numbers, so
 -- there is one from which on none moves.
@@ -42,25 +42,25 @@ abbrev pub protecting : (ℕ → Type 0) → Allowance
 protecting isProtected = record { allowsFacts = λ F. Unit {0}; allowsSubstitution = λ σ. Finite σ × ((X : ℕ) → isProtected X → σ X ≡ variable X) }
 
 -- A demand: the atom is to be fresh for the tree (tags 21 and 22; of a 22 the tree is a variable). An equation: two trees are to be equal.
-abbrev pub Demand : Type 0
-Demand = ℕ × Tree
+abbrev pub TreeDemand : Type 0
+TreeDemand = ℕ × Tree
 
-abbrev pub Equation : Type 0
-Equation = Tree × Tree
+abbrev pub TreeEquation : Type 0
+TreeEquation = Tree × Tree
 
-pub record Problem : Type 0 where
-  pub demands : List Demand
-  pub equations : List Equation
+pub record TreeProblem : Type 0 where
+  pub demands : List TreeDemand
+  pub equations : List TreeEquation
 
 -- "It solves the problem if its facts derive every demand (21, 22) and every equation after substitution (003)." The facts stand as the
 -- environment that they give.
-abbrev pub Meets : Environment → Substitution → Demand → Type 0
+abbrev pub Meets : Environment → Substitution → TreeDemand → Type 0
 Meets ∇ τ d = ∇ ⊢ d .0 # substitute τ (d .1)
 
-abbrev pub Equates : Environment → Substitution → Equation → Type 0
+abbrev pub Equates : Environment → Substitution → TreeEquation → Type 0
 Equates ∇ τ e = ∇ ⊢ substitute τ (e .0) ≈ substitute τ (e .1)
 
-abbrev pub Solves : Environment → Substitution → Problem → Type 0
+abbrev pub Solves : Environment → Substitution → TreeProblem → Type 0
 Solves ∇ τ P = Every (Meets ∇ τ) (P .demands) × Every (Equates ∇ τ) (P .equations)
 
 -- An answer is a finite set of facts and a substitution.
@@ -80,11 +80,11 @@ Instance A ∇ τ q =
 
 -- "Two answers are equally general if they have the same allowed instances."
 abbrev pub EquallyGeneral : Allowance → Answer → Answer → Type 0
-EquallyGeneral A q r = (F : Facts) (τ : Substitution) → Allowed A F τ → Instance A (given F) τ q ↔ Instance A (given F) τ r
+EquallyGeneral A q r = (F : Facts) (τ : Substitution) → Allowed A F τ → Instance A (environmentOf F) τ q ↔ Instance A (environmentOf F) τ r
 
 -- The answer that a problem is to get: its allowed instances are exactly the problem's allowed solutions.
-abbrev pub Answers : Allowance → Problem → Answer → Type 0
-Answers A P q = (F : Facts) (τ : Substitution) → Allowed A F τ → Solves (given F) τ P ↔ Instance A (given F) τ q
+abbrev pub Answers : Allowance → TreeProblem → Answer → Type 0
+Answers A P q = (F : Facts) (τ : Substitution) → Allowed A F τ → Solves (environmentOf F) τ P ↔ Instance A (environmentOf F) τ q
 
 -- Words for the way there. The pair takes each variable and its value under σ for equal; σ done twice is σ done once; σ leaves the fact's
 -- variable as it is.

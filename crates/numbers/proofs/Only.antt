@@ -6,10 +6,11 @@ use mathlib.Core.Bool.{cond}
 use lib.Dec.{eqb}
 use Rattle.run.specs.Answer as run
 use Rattle.numbers.specs.declared.Verdict.{Verdict}
-use Rattle.numbers.specs.declared.Verdict.the-variants.{Accepted, TooLong, NoHead, Cut, UnknownTag, WrongLength, TooMany, NotThere, Limit, Clash, Inside, Protected, NotFresh, TooShort}
+use Rattle.numbers.specs.declared.Verdict.the-variants.{Accepted, TooLong, NoHead, Cut, UnknownTag, WrongLength, TooMany, NotThere, Limit, Clash, Inside}
+use Rattle.numbers.specs.declared.Verdict.the-variants.{Protected, NotFresh, TooShort}
 use Rattle.numbers.specs.declared.Judgement.{Judgement}
 use Rattle.numbers.specs.declared.Judgement.the-variants as judged
-use Rattle.numbers.specs.Verdicts.{numberOf, placeOf, resultOf, judgementOf}
+use Rattle.numbers.specs.Verdicts.{verdictNumber, verdictPlace, resultOf, judgementGiven}
 
 -- The case that has a number and a place.
 abbrev verdictAt : ℕ → ℕ → Verdict
@@ -28,7 +29,7 @@ verdictAt n o =
     (cond (eqb n 11) (Protected o)
     (cond (eqb n 12) NotFresh (TooShort o)))))))))))))
 
-verdict-back : (r : Verdict) → verdictAt (numberOf r) (placeOf r) ≡ r
+verdict-back : (r : Verdict) → verdictAt (verdictNumber r) (verdictPlace r) ≡ r
 verdict-back (Accepted n) = refl
 verdict-back TooLong = refl
 verdict-back NoHead = refl
@@ -62,7 +63,7 @@ judgementAt n o =
     (cond (eqb n 7) (judged.NotThere o)
     (cond (eqb n 8) (judged.Limit o) judged.DoesNotHold))))))))
 
-judgement-back : (r : Judgement) → judgementAt (judgementOf r .0) (judgementOf r .1) ≡ r
+judgement-back : (r : Judgement) → judgementAt (judgementGiven r .0) (judgementGiven r .1) ≡ r
 judgement-back judged.Holds = refl
 judgement-back judged.TooLong = refl
 judgement-back judged.NoHead = refl
@@ -74,5 +75,5 @@ judgement-back (judged.NotThere o) = refl
 judgement-back (judged.Limit e) = refl
 judgement-back judged.DoesNotHold = refl
 
-pub one-judgement : (r u : Judgement) → judgementOf r ≡ judgementOf u → r ≡ u
+pub one-judgement : (r u : Judgement) → judgementGiven r ≡ judgementGiven u → r ≡ u
 one-judgement r u q = sym (judgement-back r) ∙ ap (λ (x : ℕ × ℕ). judgementAt (x .0) (x .1)) q ∙ judgement-back u

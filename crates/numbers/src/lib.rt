@@ -1,6 +1,6 @@
 // What the solver and the judge give back: a verdict and a judgement, and document 01's number and place for each case, as the two numbers that are printed.
 ghost use mathlib.Core.Path.{_≡_};
-ghost use Rattle.numbers.specs.Verdicts.{numberOf, placeOf, judgementOf};
+ghost use Rattle.numbers.specs.Verdicts.{verdictNumber, verdictPlace, judgementGiven};
 
 // What the solver gives back: document 01's numbers 0 to 13, each with its place where it has one.
 pub enum Verdict {
@@ -49,7 +49,7 @@ fn told(number: u8, place: usize) -> Given
 }
 
 pub fn of_verdict(v: Verdict) -> Given
-    ensures { λ r. ⌜ (r .number ≡ numberOf v) × (r .place ≡ placeOf v) ⌝ }
+    ensures { λ r. ⌜ (r .number ≡ verdictNumber v) × (r .place ≡ verdictPlace v) ⌝ }
 {
     match v {
         Verdict::Accepted(n) => told(0, n),
@@ -70,7 +70,7 @@ pub fn of_verdict(v: Verdict) -> Given
 }
 
 pub fn of_judgement(j: Judgement) -> Given
-    ensures { λ r. ⌜ (r .number ≡ judgementOf j .0) × (r .place ≡ judgementOf j .1) ⌝ }
+    ensures { λ r. ⌜ (r .number ≡ judgementGiven j .0) × (r .place ≡ judgementGiven j .1) ⌝ }
 {
     match j {
         Judgement::Holds => told(0, 0),

@@ -1,19 +1,15 @@
--- The set and the table in which the bindings are kept are what the occurs check wants, and it has room for every node that they name.
-use Prim.Native.Nat.{ℕ, _≤_, _<_}
-use native.Mathlib.Omega.{arith}
+-- The set and the table in which the bindings are kept are what the occurs check wants.
+use Prim.Native.Nat.{ℕ}
 use mathlib.Core.Path.{_≡_, refl, _∙_}
 use mathlib.Core.Logic.{⊎-elim}
 use mathlib.Core.Bool.{Bool, true, false, _||_}
 use mathlib.Core.List.{List, [], _∷_, map, List·Memᴰ, List·Memᴰ·not-nil, List·Memᴰ·cases-cons}
-use lib.ListN.{length, getD, take}
+use lib.ListN.{take}
 use lib.Dec.{eqb}
 use borrow.Author.Tests.{eq-eqb}
-use Rattle.sets.specs.Bits.{member, among}
-use Rattle.nominal.specs.Tree.{Substitution}
+use Rattle.sets.specs.Bits.{among}
 use Rattle.run.specs.Meaning.{Binding}
-use Rattle.run.specs.Run.{Ground}
-use Rattle.run.proofs.Bindings.{Meant}
-use Rattle.bindings.specs.Bindings.{Bindings, bindingAt, bindingsOf, Keeps}
+use Rattle.bindings.specs.Bindings.{Bindings, orderIn, bindingAt, bindingsOf, Keeps}
 use Rattle.bindings.proofs.Bindings.{valueOf-set}
 use Rattle.occurs.specs.Reached.{Rooted}
 
@@ -30,14 +26,9 @@ one-of A t (X ∷ l) b m =
     (λ k. let (Y, y, e) = one-of A t l b k in (Y, or-true (eqb Y X) (among Y l) y, e))
     (List·Memᴰ·cases-cons m)
 
-pub rooted : (A : ℕ) (t : Bindings) (k bound : ℕ) → Keeps (t .order) k bound → Rooted (bindingsOf A t k) bound (t .roots)
+pub rooted : (A : ℕ) (t : Bindings) (k bound : ℕ) → Keeps (t .made) k bound → Rooted (bindingsOf A t k) bound (t .made)
 unfolding bindingsOf bindingAt
 rooted A t k bound h = record {
-  each = λ b m. let (X, x, e) = one-of A t (take k (t .order)) b m in rw e (h .holds X ∙ x, refl);
+  each = λ b m. let (X, x, e) = one-of A t (take k (orderIn (t .made))) b m in rw e (h .holds X ∙ x, refl);
   valued = λ Y m. (bindingAt A t Y .value, valueOf-set A t k bound h Y ∙ rw m, refl);
 }
-
--- What `occurs` and `reaches` require of the table.
-pub roots-below : {g : Ground} {variables : ℕ} {bs : List Binding} {σ : Substitution} {bound : ℕ} {roots : List ℕ} → Meant g variables bs σ → Rooted bs bound roots
-    → length (g .nodes) ≤ 512 → (Y : ℕ) → member bound Y ≡ true → getD roots Y 0 < 512
-roots-below m r h Y b = let (v, e, q) = r .valued Y b in rw q (let l = m .fits Y v e .there in omega arith)

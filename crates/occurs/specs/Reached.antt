@@ -10,6 +10,7 @@ use Rattle.sets.specs.Bits.{member}
 use Rattle.problem.specs.Problem.{Node}
 use Rattle.run.specs.Meaning.{tree, occursIn, Side, Binding}
 use Rattle.run.specs.Run.{valueOf}
+use Rattle.bindings.specs.Bindings.{nodeOf}
 
 -- The set w holds the variables that occur in the tree of node n.
 abbrev pub VariablesOf : List Node → ℕ → ℕ → Type 0
@@ -17,31 +18,35 @@ VariablesOf nodes n w = (X : ℕ) → member w X ≡ occursIn X (tree nodes n)
 
 -- The table has the sets of the nodes below k; of all nodes, and every other row is as it was.
 abbrev pub FilledBelow : List Node → List ℕ → ℕ → Type 0
-FilledBelow nodes table k = (n : ℕ) → n < k → VariablesOf nodes n (getD table n 0)
+FilledBelow nodes nodeVariables k = (n : ℕ) → n < k → VariablesOf nodes n (getD nodeVariables n 0)
 
 pub record Filled (nodes : List Node) (before after : List ℕ) : Type 0 where
   pub sets : FilledBelow nodes after (length nodes)
   pub others : (n : ℕ) → length nodes ≤ n → getD after n 0 ≡ getD before n 0
 
+-- The set that a bound variable is looked through to: that of its value's node.
+abbrev pub behind : List (List ℕ) → List ℕ → ℕ → ℕ
+behind made nodeVariables Y = getD nodeVariables (nodeOf made Y) 0
+
 -- A variable is reached from a set of variables if it is in it, or occurs in the node that a bound variable which is reached has for its value.
-pub data Reached (bound : ℕ) (roots table : List ℕ) (start : ℕ) : ℕ → Type 0 where
-  inside : {X : ℕ} → member start X ≡ true → Reached bound roots table start X
-  through : {X Y : ℕ} → Reached bound roots table start Y → member bound Y ≡ true → member (getD table (getD roots Y 0) 0) X ≡ true
-      → Reached bound roots table start X
+pub data Reached (bound : ℕ) (made : List (List ℕ)) (nodeVariables : List ℕ) (start : ℕ) : ℕ → Type 0 where
+  inside : {X : ℕ} → member start X ≡ true → Reached bound made nodeVariables start X
+  through : {X Y : ℕ} → Reached bound made nodeVariables start Y → member bound Y ≡ true → member (behind made nodeVariables Y) X ≡ true
+      → Reached bound made nodeVariables start X
 
 -- The set of those that are reached: it has all of the start, it is closed under bindings, and it has no others.
-pub record Closure (bound : ℕ) (roots table : List ℕ) (start w : ℕ) : Type 0 where
+pub record Closure (bound : ℕ) (made : List (List ℕ)) (nodeVariables : List ℕ) (start w : ℕ) : Type 0 where
   pub holds : (X : ℕ) → member start X ≡ true → member w X ≡ true
-  pub closed : (X Y : ℕ) → member w Y ≡ true → member bound Y ≡ true → member (getD table (getD roots Y 0) 0) X ≡ true → member w X ≡ true
-  pub reached : (X : ℕ) → member w X ≡ true → Reached bound roots table start X
+  pub closed : (X Y : ℕ) → member w Y ≡ true → member bound Y ≡ true → member (behind made nodeVariables Y) X ≡ true → member w X ≡ true
+  pub reached : (X : ℕ) → member w X ≡ true → Reached bound made nodeVariables start X
 
 -- The answer for the variable X and node n: whether X is in the set of those that are reached from n's.
-pub record Answered (bound : ℕ) (roots table : List ℕ) (n X : ℕ) (r : Bool) : Type 0 where
+pub record Answered (bound : ℕ) (made : List (List ℕ)) (nodeVariables : List ℕ) (n X : ℕ) (r : Bool) : Type 0 where
   pub set : ℕ
-  pub closure : Closure bound roots table (getD table n 0) set
+  pub closure : Closure bound made nodeVariables (getD nodeVariables n 0) set
   pub answer : r ≡ member set X
 
 -- How the bindings stand in a set and a table: the variable of each is in the set and the table has its value's node, and each of the set has a value.
-pub record Rooted (bs : List Binding) (bound : ℕ) (roots : List ℕ) : Type 0 where
-  pub each : (b : Binding) → List·Memᴰ b bs → (member bound (b .variable) ≡ true) × (getD roots (b .variable) 0 ≡ b .value .node)
-  pub valued : (Y : ℕ) → member bound Y ≡ true → (v : Side) × (valueOf bs Y ≡ some v) × (getD roots Y 0 ≡ v .node)
+pub record Rooted (bs : List Binding) (bound : ℕ) (made : List (List ℕ)) : Type 0 where
+  pub each : (b : Binding) → List·Memᴰ b bs → (member bound (b .variable) ≡ true) × (nodeOf made (b .variable) ≡ b .value .node)
+  pub valued : (Y : ℕ) → member bound Y ≡ true → (v : Side) × (valueOf bs Y ≡ some v) × (nodeOf made Y ≡ v .node)

@@ -2,20 +2,26 @@
 // then "X occurs in the right side, looked at through all bindings" takes at most one step for each bound variable, however often nodes are shared.
 
 ghost use mathlib.Core.Path.{_≡_};
-ghost use mathlib.Core.Bool.{true};
-ghost use Prim.Native.Nat.{ℕ, _<_};
+ghost use Prim.Native.Nat.{_<_};
 ghost use lib.ListN.{length, getD, set};
-ghost use Rattle.sets.specs.Bits.{member};
 ghost use Rattle.problem.specs.Held.{problemOf};
-ghost use Rattle.problem.specs.Look.{NodesStand};
+ghost use Rattle.problem.specs.Look.{Standing};
+ghost use Rattle.bindings.specs.Bindings.{NodesThere};
 ghost use Rattle.occurs.specs.Reached.{VariablesOf, FilledBelow, Filled, Closure, Answered};
+use bindings::Made;
 use names::NodeId;
 use names::Variable;
 use problem::Form;
+use problem::Places;
 use sets::VariableSet;
 
+// By node the set of the variables that occur in it.
+pub type NodeVariables = [u64; 512];
+
+pub const EMPTY_NODE_VARIABLES: NodeVariables = [0; 512];
+
 // The set that the table has for a node.
-fn variables(node_variables: &[u64; 512], node: NodeId) -> VariableSet
+fn variables(node_variables: &NodeVariables, node: NodeId) -> VariableSet
     requires { ⌜ node .0 < 512 ⌝ }
     ensures { λ r. ⌜ r .0 ≡ getD (now («node_variables» .entry)) (node .0) 0 ⌝ }
 {
@@ -26,11 +32,13 @@ fn variables(node_variables: &[u64; 512], node: NodeId) -> VariableSet
 // The variables of a node, from the sets of the nodes before it.
 fn variables_at(
     s: &[u8],
-    places: &[u16; 512],
-    node_variables: &[u64; 512],
+    places: &Places,
+    node_variables: &NodeVariables,
     node: NodeId,
 ) -> VariableSet
-    requires { ⌜ NodesStand (now s) (now places) × (node .0 < length (problemOf (now s) .nodes)) × FilledBelow (problemOf (now s) .nodes) (now «node_variables») (node .0) ⌝ }
+    requires { ⌜ Standing (now s) (now places)
+        × (node .0 < length (problemOf (now s) .nodes))
+        × FilledBelow (problemOf (now s) .nodes) (now «node_variables») (node .0) ⌝ }
     ensures { λ r. ⌜ VariablesOf (problemOf (now (s .entry)) .nodes) (node .0) (r .0) ⌝ }
 {
     let form = problem::look::form_of(s, places, node);
@@ -56,8 +64,8 @@ fn put(node_variables: &mut [u64], n: usize, variables: VariableSet)
 }
 
 // The sets of all nodes, in their order. Rows past the problem's nodes keep what they hold.
-pub fn fill(s: &[u8], places: &[u16; 512], nodes: usize, node_variables: &mut [u64; 512])
-    requires { ⌜ NodesStand (now s) (now places) × (nodes ≡ length (problemOf (now s) .nodes)) ⌝ }
+pub fn fill(s: &[u8], places: &Places, node_variables: &mut NodeVariables, nodes: usize)
+    requires { ⌜ Standing (now s) (now places) × (nodes ≡ length (problemOf (now s) .nodes)) ⌝ }
     ensures { λ r. ⌜ Filled (problemOf (now (s .entry)) .nodes) (now («node_variables» .entry)) (now («node_variables» .exit)) ⌝ }
 {
     let mut n: usize = 0;
@@ -69,14 +77,15 @@ pub fn fill(s: &[u8], places: &[u16; 512], nodes: usize, node_variables: &mut [u
 }
 
 // The variables that are reached from a node through bindings: each bound variable is looked through at most once.
-pub fn reaches(
+fn reaches(
+    node_variables: &NodeVariables,
+    made: &Made,
     bound: VariableSet,
-    roots: &[u16; 64],
-    node_variables: &[u64; 512],
     from: NodeId,
 ) -> VariableSet
-    requires { ⌜ (from .0 < 512) × ((Y : ℕ) → member (bound .0) Y ≡ true → getD (now roots) Y 0 < 512) ⌝ }
-    ensures { λ r. ⌜ Closure (bound .0) (now (roots .entry)) (now («node_variables» .entry)) (getD (now («node_variables» .entry)) (from .0) 0) (r .0) ⌝ }
+    requires { ⌜ (from .0 < 512) × NodesThere 512 (now made) (bound .0) ⌝ }
+    ensures { λ r. ⌜ Closure (bound .0) (now (made .entry)) (now («node_variables» .entry))
+        (getD (now («node_variables» .entry)) (from .0) 0) (r .0) ⌝ }
 {
     let mut reach = variables(node_variables, from);
     let mut waiting = bound;
@@ -86,24 +95,24 @@ pub fn reaches(
             return reach;
         }
         let x = unseen.lowest();
-        let i = x.0 as usize;
         waiting = waiting.without(x);
-        let found = variables(node_variables, NodeId(roots[i]));
+        let value = bindings::node_of(made, x);
+        let found = variables(node_variables, value);
         reach = reach.union(found);
     }
 }
 
 // Whether a variable occurs in a node, looked at through all bindings.
 pub fn occurs(
-    x: Variable,
+    node_variables: &NodeVariables,
+    made: &Made,
     bound: VariableSet,
-    roots: &[u16; 64],
-    node_variables: &[u64; 512],
+    x: Variable,
     node: NodeId,
 ) -> bool
-    requires { ⌜ (node .0 < 512) × ((Y : ℕ) → member (bound .0) Y ≡ true → getD (now roots) Y 0 < 512) ⌝ }
-    ensures { λ r. ⌜ Answered (bound .0) (now (roots .entry)) (now («node_variables» .entry)) (node .0) (x .0) r ⌝ }
+    requires { ⌜ (node .0 < 512) × NodesThere 512 (now made) (bound .0) ⌝ }
+    ensures { λ r. ⌜ Answered (bound .0) (now (made .entry)) (now («node_variables» .entry)) (node .0) (x .0) r ⌝ }
 {
-    let reach = reaches(bound, roots, node_variables, node);
+    let reach = reaches(node_variables, made, bound, node);
     reach.has(x)
 }

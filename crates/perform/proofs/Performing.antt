@@ -1,7 +1,7 @@
 -- The laws of doing what the rule tells: what each function leaves in its tables is what the definition's step adds.
-use Prim.Native.Nat.{ℕ, _+_, _≤_, _<_}
+use Prim.Native.Nat.{ℕ, _+_, _≤_}
 use native.Mathlib.Omega.{arith}
-use mathlib.Core.Path.{_≡_, refl, sym, _∙_, ap, ap₂}
+use mathlib.Core.Path.{_≡_, refl, sym, _∙_, ap}
 use mathlib.Core.List.{List, [], _∷_, _++_, map, append-nil}
 use lib.ListN.{length}
 use Rattle.names.specs.declared.NodeId.{NodeId}
@@ -11,26 +11,28 @@ use Rattle.permutation.specs.declared.Permutation.{Permutation}
 use Rattle.permutation.proofs.Table.{length-after}
 use Rattle.permutation.proofs.Store.{table-ofTable, length-table, table-inverted, table-swappedAfter, members-disagreement}
 use Rattle.sets.specs.Bits.{members, ofList}
-use Rattle.run.specs.Meaning.{Side, Binding}
-use Rattle.run.specs.Run.{Equation, of-variable, of-side, Demand, under, pending, bindings, demands}
-use Rattle.stack.specs.Stack.{Stack, stackOf, equationOf, Pushed}
-use Rattle.stack.specs.declared.Pending.{Pending}
-use Rattle.bindings.specs.Bindings.{Bindings, bindingsOf, Keeps, sideOf, bindingOf}
-use Rattle.bindings.specs.declared.Value.{Value}
-use Rattle.demands.specs.Demands.{Sheet, Raised, SideRaised, VariableRaised}
-use Rattle.rule.specs.Side.{sideAt, wholeOf}
 use Rattle.sets.specs.declared.VariableSet.{VariableSet}
 use Rattle.problem.specs.Held.{problemOf}
-use Rattle.perform.specs.declared.Outcome.the-variants.{Goes}
-use Rattle.perform.specs.Performed.{Grown, RenamedTo, DisagreementRaised, heldValue, BoundTo, tablesOf, GoneOn}
+use Rattle.run.specs.Meaning.{Side}
+use Rattle.run.specs.Run.{Equation, of-variable, of-side, under, Refusal}
+use Rattle.stack.specs.Stack.{Stack, stackOf, equationOf, Pushed}
+use Rattle.stack.specs.declared.Pending.{Pending}
+use Rattle.bindings.specs.Bindings.{Bindings, bindingsOf, Keeps, Added, sideOf, bindingOf}
+use Rattle.bindings.specs.declared.Value.{Value}
+use Rattle.demands.specs.Demands.{Sheet, SideRaised, VariableRaised}
+use Rattle.rule.specs.Side.{sideAt, wholeOf}
 use Rattle.rule.proofs.Resolving.{length-whole}
+use Rattle.perform.specs.declared.State.{State}
+use Rattle.perform.specs.declared.Stepped.{Stepped}
+use Rattle.perform.specs.declared.Outcome.the-variants.{Refuses}
+use Rattle.perform.specs.Performed.{Tables, tablesOf, goneTo, Grown, DisagreementRaised, heldValue, BoundTo, refusalTold, Refused, GoneOn}
 
 -- ---- equations
 
-pub grown-one : (n : ℕ) (before after : Stack) (e : Pending) → Pushed before n e after → (A : ℕ) → A ≤ 32
+pub grown-one : {n : ℕ} {before after : Stack} {e : Pending} → Pushed before n e after → (A : ℕ) → A ≤ 32
     → Grown A (e .number) ((sideAt A (e .left) (e .«left_node»), sideAt A (e .right) (e .«right_node»)) ∷ []) before n after (n + 1)
 unfolding equationOf
-grown-one n before after e h A s = h .stack A s
+grown-one h A few = h .stack A few
 
 pub grown-two : (A number n : ℕ) (s t u v : Side) (before between after : Stack) → Grown A number ((u, v) ∷ []) before n between (n + 1)
     → Grown A number ((s, t) ∷ []) between (n + 1) after (n + 1 + 1) → Grown A number ((s, t) ∷ (u, v) ∷ []) before n after (n + 2)
@@ -38,89 +40,99 @@ grown-two A number n s t u v before between after f g =
     let e : n + 1 + 1 ≡ n + 2 = omega arith in
     ap (stackOf A after) (sym e) ∙ g ∙ ap (λ (l : List Equation). record { number = number; left = s; right = t } ∷ l) f
 
-pub renamed-to : (A number n a b : ℕ) (s : Side) (q swapped : Permutation) (k : NodeId) (before after : Stack) (asked now-asked : Sheet) → A ≤ 32 → length (q .images) ≡ 32
-    → swapped ≡ ofTable (swappedAfter a b (table A q)) → Grown A number ((s, sideAt A swapped k) ∷ []) before n after (n + 1)
-    → SideRaised a (table A q) (k .0) number asked now-asked → RenamedTo A number s a b (sideAt A q k) before asked n after now-asked
-renamed-to A number n a b s q swapped k before after asked now-asked h l e g d =
-    let m : table A swapped ≡ swappedAfter a b (table A q) = ap (table A) e ∙ table-swappedAfter A a b (table A q) (length-table A q (omega arith)) in
-    record { stack = rw m at g; demand = d }
+-- The right side's images after the swap are those that the code has pushed.
+pub swapped-is : {swapped : Permutation} (A a b : ℕ) (q : Permutation) → A ≤ 32 → length (q .images) ≡ 32
+    → swapped ≡ ofTable (swappedAfter a b (table A q)) → table A swapped ≡ swappedAfter a b (table A q)
+swapped-is A a b q few whole e = ap (table A) e ∙ table-swappedAfter A a b (table A q) (length-table A q (omega arith))
 
 -- ---- demands
 
-pub disagreement-raised : (s : List ℕ) (A : ℕ) (P Q : Table) (m k X number : ℕ) (left right : Permutation) (w : ℕ) (before after : Sheet) → A ≤ 32
+pub disagreement-raised : {A w X number : ℕ} {before after : Sheet} (s : List ℕ) (P Q : Table) (m k : ℕ) (left right : Permutation) → A ≤ 32
     → table A left ≡ wholeOf s A P m → table A right ≡ wholeOf s A Q k → w ≡ ofList 32 (disagreement (table A left) (table A right))
     → VariableRaised w X number before after → DisagreementRaised (wholeOf s A P m) (wholeOf s A Q k) X number before after
-disagreement-raised s A P Q m k X number left right w before after h i j g v nodes variables ds onNodes x y r =
+disagreement-raised {A} {w} s P Q m k left right few is-left is-right is-set h nodes variables ds few-nodes raised =
     let l : length (wholeOf s A P m) ≡ A = length-whole s A P m in
-    let z : members 32 w ≡ disagreement (wholeOf s A P m) (wholeOf s A Q k) = ap (members 32) g ∙ rw (i, j) (members-disagreement (wholeOf s A P m) (wholeOf s A Q k) (omega arith)) in
-    rw z at (v .raised nodes variables ds onNodes x y r)
+    let atoms-are : members 32 w ≡ disagreement (wholeOf s A P m) (wholeOf s A Q k) =
+    ap (members 32) is-set ∙ rw (is-left, is-right) (members-disagreement (wholeOf s A P m) (wholeOf s A Q k) (omega arith)) in
+    rw atoms-are at (h .raised nodes variables ds few-nodes raised)
 
 -- ---- a binding
 
-pub value-is : (s : List ℕ) (A : ℕ) (P : Table) (m : ℕ) (outer back images q : Permutation) (k : NodeId)
+pub value-is : {back images : Permutation} (s : List ℕ) (A : ℕ) (P : Table) (m : ℕ) (outer q : Permutation) (k : NodeId)
     → table A outer ≡ wholeOf s A P m → back ≡ ofTable (inverted (table A outer)) → images ≡ ofTable (after (table A back) (table A q))
     → record { images = images; node = k } ≡ heldValue (under (inverted (wholeOf s A P m)) (sideAt A q k))
-value-is s A P m outer back images q k e f g =
-    let j : table A back ≡ inverted (wholeOf s A P m) = ap (table A) f ∙ rw e (table-inverted A (wholeOf s A P m) (length-whole s A P m)) in
-    ap (λ (p : Permutation). record { images = p; node = k }) (g ∙ rw j)
+value-is {back} s A P m outer q k is-outer is-back is-images =
+    let back-is : table A back ≡ inverted (wholeOf s A P m) =
+    ap (table A) is-back ∙ rw is-outer (table-inverted A (wholeOf s A P m) (length-whole s A P m)) in
+    ap (λ (p : Permutation). record { images = p; node = k }) (is-images ∙ rw back-is)
 
-pub length-value : (A : ℕ) (P : Table) (q : Permutation) (k : NodeId) → A ≤ 32 → length (q .images) ≡ 32 → length (under P (sideAt A q k) .images) ≡ A
-length-value A P q k h l = length-after P (table A q) ∙ length-table A q (omega arith)
+pub length-value : {A : ℕ} (P : Table) (q : Permutation) (k : NodeId) → A ≤ 32 → length (q .images) ≡ 32 → length (under P (sideAt A q k) .images) ≡ A
+length-value {A} P q k few whole = length-after P (table A q) ∙ length-table A q (omega arith)
+
+pub bound-to : {A number X : ℕ} {v : Side} {before after : Bindings} {state : State} {value : Value} {more : VariableSet} {r : Stepped}
+    → Added before (state .count) (state .bound .0) X value number after (more .0) → value ≡ heldValue v → length (v .images) ≡ A
+    → r ≡ goneTo (state .waiting) more (state .count + 1) → BoundTo A number X v before state after r
+bound-to added is-value long gone = rw gone (record { added = rw is-value at added; images = long; gone = refl })
+
+-- ---- what refuses
+
+pub refused-by : {why : Refusal} {t : Tables} {state : State} {r : Stepped} → r ≡ record { outcome = Refuses (refusalTold why); state = state }
+    → Refused why t state t r
+refused-by e = rw e (record { outcome = refl; stays = refl; tables = refl })
 
 -- ---- what goes on
 
-module _ (s : List ℕ) (A number n count : ℕ) (w : VariableSet) (made : Bindings) (keeps : Keeps (made .order) count (w .0)) where
-  pub gone-pushed : (qs : List (Side × Side)) (before after : Stack) (onNodes onVariables : Sheet) (k : ℕ) → Grown A number qs before n after k
-      → GoneOn s A number qs [] [] (tablesOf before made onNodes onVariables) n (w .0) count (tablesOf after made onNodes onVariables) (record { outcome = Goes; waiting = k; bound = w; count = count })
-  gone-pushed qs before after onNodes onVariables k g =
-      record {
-        outcome = refl;
-        stack = g;
-        made = sym (append-nil (bindingsOf A made count));
-        keeps = keeps;
-        counted = omega arith;
-        raised = λ ds r. rw append-nil r;
-      }
+none-bound : (A k : ℕ) (made : Bindings) → bindingsOf A made k ≡ bindingsOf A made k ++ []
+none-bound A k made = sym (append-nil (bindingsOf A made k))
 
-  pub gone-renamed : (u t : Side) (a b : ℕ) (before after : Stack) (asked now-asked onVariables : Sheet) → RenamedTo A number u a b t before asked n after now-asked
-      → t .node < length (problemOf s .nodes) → length (problemOf s .nodes) ≤ 512
-      → GoneOn s A number ((u, record { images = swappedAfter a b (t .images); node = t .node }) ∷ []) [] ((a, of-side t) ∷ []) (tablesOf before made asked onVariables) n (w .0) count
-      (tablesOf after made now-asked onVariables) (record { outcome = Goes; waiting = n + 1; bound = w; count = count })
-  gone-renamed u t a b before after asked now-asked onVariables h l m =
-      record {
-        outcome = refl;
-        stack = h .stack;
-        made = sym (append-nil (bindingsOf A made count));
-        keeps = keeps;
-        counted = omega arith;
-        raised = λ ds r. h .demand .raised (length (problemOf s .nodes)) (problemOf s .variables) ds onVariables l m r;
-      }
+-- In a state whose set of bound variables and number belong to the bindings: nothing is bound, and the bindings stay.
+module _ {s : List ℕ} {A number : ℕ} {state : State} {made : Bindings} (keeps : Keeps (made .made) (state .count) (state .bound .0)) where
+  pub gone-pushed : {qs : List (Side × Side)} {before after : Stack} {asked : Sheet} {n : ℕ} {r : Stepped} → r ≡ goneTo n (state .bound) (state .count)
+      → Grown A number qs before (state .waiting) after n
+      → GoneOn s A number qs [] [] (tablesOf before made asked) state (tablesOf after made asked) r
+  gone-pushed gone pushed =
+      rw gone (record { outcome = refl; stack = pushed; made = none-bound A (state .count) made; keeps = keeps; raised = λ ds raised. rw append-nil raised })
 
-  pub gone-same : (P Q : Table) (X : ℕ) (waiting : Stack) (onNodes before after : Sheet) → DisagreementRaised P Q X number before after
-      → X < problemOf s .variables → problemOf s .variables ≤ 64
-      → GoneOn s A number [] [] (map (λ a. (a, of-variable X)) (disagreement P Q)) (tablesOf waiting made onNodes before) n (w .0) count (tablesOf waiting made onNodes after)
-      (record { outcome = Goes; waiting = n; bound = w; count = count })
-  gone-same P Q X waiting onNodes before after h l m =
-      record {
+  pub gone-renamed : {u t : Side} {a : ℕ} {before after : Stack} {asked now-asked : Sheet} {r : Stepped} (b : ℕ)
+      → r ≡ goneTo (state .waiting + 1) (state .bound) (state .count)
+      → Grown A number ((u, record { images = swappedAfter a b (t .images); node = t .node }) ∷ []) before (state .waiting) after (state .waiting + 1)
+      → SideRaised a (t .images) (t .node) number asked now-asked
+      → GoneOn s A number ((u, record { images = swappedAfter a b (t .images); node = t .node }) ∷ []) [] ((a, of-side t) ∷ [])
+      (tablesOf before made asked) state (tablesOf after made now-asked) r
+  gone-renamed b gone pushed h =
+      rw gone
+      (record {
+        outcome = refl;
+        stack = pushed;
+        made = none-bound A (state .count) made;
+        keeps = keeps;
+        raised = λ ds raised. h .raised (length (problemOf s .nodes)) (problemOf s .variables) ds raised;
+      })
+
+  pub gone-same : {waiting : Stack} {before after : Sheet} {r : Stepped} (P Q : Table) (X : ℕ) → r ≡ goneTo (state .waiting) (state .bound) (state .count)
+      → DisagreementRaised P Q X number before after → length (problemOf s .nodes) ≤ 512
+      → GoneOn s A number [] [] (map (λ a. (a, of-variable X)) (disagreement P Q)) (tablesOf waiting made before) state (tablesOf waiting made after) r
+  gone-same P Q X gone h few-nodes =
+      rw gone
+      (record {
         outcome = refl;
         stack = refl;
-        made = sym (append-nil (bindingsOf A made count));
+        made = none-bound A (state .count) made;
         keeps = keeps;
-        counted = omega arith;
-        raised = λ ds r. h (length (problemOf s .nodes)) (problemOf s .variables) ds onNodes l m r;
-      }
+        raised = λ ds raised. h (length (problemOf s .nodes)) (problemOf s .variables) ds few-nodes raised;
+      })
 
-  pub gone-bound : (X : ℕ) (v : Side) (more : VariableSet) (after : Bindings) (waiting : Stack) (onNodes onVariables : Sheet) → A ≤ 32
-      → BoundTo A made count (w .0) X v number after (more .0)
-      → GoneOn s A number [] ((X, v) ∷ []) [] (tablesOf waiting made onNodes onVariables) n (w .0) count (tablesOf waiting after onNodes onVariables)
-      (record { outcome = Goes; waiting = n; bound = more; count = count + 1 })
-  unfolding bindingOf sideOf
-  gone-bound X v more after waiting onNodes onVariables few h =
-      record {
-        outcome = refl;
-        stack = refl;
-        made = rw (table-ofTable A (v .images) (h .images)) at (h .added .bindings A few);
-        keeps = h .added .keeps;
-        counted = refl;
-        raised = λ ds r. rw append-nil r;
-      }
+-- A binding is added.
+pub gone-bound : {s : List ℕ} {A number X : ℕ} {v : Side} {before after : Bindings} {state : State} {waiting : Stack} {asked : Sheet} {r : Stepped} → A ≤ 32
+    → BoundTo A number X v before state after r
+    → GoneOn s A number [] ((X, v) ∷ []) [] (tablesOf waiting before asked) state (tablesOf waiting after asked) r
+unfolding bindingOf sideOf
+gone-bound {A = A} {v = v} few h =
+    rw (h .gone)
+    (record {
+      outcome = refl;
+      stack = refl;
+      made = rw (table-ofTable A (v .images) (h .images)) at (h .added .bindings A few);
+      keeps = h .added .keeps;
+      raised = λ ds raised. rw append-nil raised;
+    })

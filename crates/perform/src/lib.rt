@@ -3,52 +3,63 @@ ghost use mathlib.Core.Path.{_≡_};
 ghost use mathlib.Core.Bool.{false};
 ghost use mathlib.Core.List.{[], _∷_};
 ghost use Prim.Native.Nat.{ℕ, _+_, _≤_, _<_};
-ghost use lib.ListN.{length};
 ghost use Rattle.permutation.specs.Store.{table};
-ghost use Rattle.permutation.specs.Table.{inverted, swappedAfter};
+ghost use Rattle.permutation.specs.Table.{inverted};
 ghost use Rattle.sets.specs.Bits.{member};
 ghost use Rattle.problem.specs.Held.{problemOf};
-ghost use Rattle.problem.specs.Look.{formNow, Suspended};
+ghost use Rattle.problem.specs.Look.{Standing};
 ghost use Rattle.run.specs.Run.{under};
 ghost use Rattle.stack.specs.Stack as pending;
-ghost use Rattle.bindings.specs.Bindings as made;
+ghost use Rattle.bindings.specs.Bindings as bindings;
 ghost use Rattle.demands.specs.Demands.{sheet};
-ghost use Rattle.rule.specs.Side.{Readied, sideAt, wholeOf};
-ghost use Rattle.rule.specs.Rule.{stepOf};
-ghost use Rattle.perform.specs.Performed.{Grown, RenamedTo, DisagreementRaised, BoundTo, tablesOf, Fit, Performed};
+ghost use Rattle.rule.specs.Side.{sideAt, wholeOf};
+ghost use Rattle.perform.specs.Performed.{tablesOf, goneTo, stepTold, Grown, DisagreementRaised, BoundTo, Hangs, Fit, Performed};
+use bindings::Made;
 use bindings::Value;
-use names::Atom;
+use bindings::Values;
+use demands::Asked;
+use demands::Firsts;
 use names::NodeId;
 use names::Variable;
 use permutation::Permutation;
+use problem::Places;
 use rule::Act;
 use rule::side::Side;
 use sets::VariableSet;
+use stack::Heads;
+use stack::Images;
 use stack::Pending;
 
-// How a step ends: it goes on, or it refuses.
-pub enum Outcome {
-    Goes,
-    Clash,
-    Inside,
-    Protection,
-}
-
-// With it, if the run goes on: how many equations wait, which variables are bound, and how many.
-pub struct Stepped {
-    pub outcome: Outcome,
+// How far the run is: how many equations wait, which variables are bound, and how many.
+pub struct State {
     pub waiting: usize,
     pub bound: VariableSet,
     pub count: usize,
 }
 
+// Why a step refuses: 9, 10 or 11.
+pub enum Refusal {
+    Clash,
+    Inside,
+    Protection,
+}
+
+// How a step ends.
+pub enum Outcome {
+    Goes,
+    Refuses(Refusal),
+}
+
+// With it how far the run is then: if the step refuses, as far as before.
+pub struct Stepped {
+    pub outcome: Outcome,
+    pub state: State,
+}
+
 // One part of each side.
 fn one_part(
-    numbers: &mut [u8; 576],
-    lefts: &mut [u16; 576],
-    rights: &mut [u16; 576],
-    left_images: &mut [u8; 18432],
-    right_images: &mut [u8; 18432],
+    heads: &mut Heads,
+    images: &mut Images,
     n: usize,
     number: u8,
     p: Permutation,
@@ -57,7 +68,9 @@ fn one_part(
     k: NodeId,
 )
     requires { ⌜ n < 576 ⌝ }
-    ensures { λ r. ⌜ ((A : ℕ) → A ≤ 32 → Grown A number ((sideAt A p m, sideAt A q k) ∷ []) (pending.tables (now (numbers .entry)) (now (lefts .entry)) (now (rights .entry)) (now («left_images» .entry)) (now («right_images» .entry))) n (pending.tables (now (numbers .exit)) (now (lefts .exit)) (now (rights .exit)) (now («left_images» .exit)) (now («right_images» .exit))) (n + 1)) ⌝ }
+    ensures { λ r. ⌜ ((A : ℕ) → A ≤ 32 → Grown A number ((sideAt A p m, sideAt A q k) ∷ [])
+        (pending.tables (now (heads .entry)) (now (images .entry))) n
+        (pending.tables (now (heads .exit)) (now (images .exit))) (n + 1)) ⌝ }
 {
     let e = Pending {
         number: number,
@@ -66,16 +79,13 @@ fn one_part(
         right: q,
         right_node: k,
     };
-    stack::push(numbers, lefts, rights, left_images, right_images, n, e);
+    stack::push(heads, images, n, e);
 }
 
 // "Pairs: the left parts on top, then the right parts."
 fn two_parts(
-    numbers: &mut [u8; 576],
-    lefts: &mut [u16; 576],
-    rights: &mut [u16; 576],
-    left_images: &mut [u8; 18432],
-    right_images: &mut [u8; 18432],
+    heads: &mut Heads,
+    images: &mut Images,
     n: usize,
     number: u8,
     p: Permutation,
@@ -86,81 +96,20 @@ fn two_parts(
     o: NodeId,
 )
     requires { ⌜ n + 1 < 576 ⌝ }
-    ensures { λ r. ⌜ ((A : ℕ) → A ≤ 32 → Grown A number ((sideAt A p l, sideAt A q k) ∷ (sideAt A p m, sideAt A q o) ∷ []) (pending.tables (now (numbers .entry)) (now (lefts .entry)) (now (rights .entry)) (now («left_images» .entry)) (now («right_images» .entry))) n (pending.tables (now (numbers .exit)) (now (lefts .exit)) (now (rights .exit)) (now («left_images» .exit)) (now («right_images» .exit))) (n + 2)) ⌝ }
+    ensures { λ r. ⌜ ((A : ℕ) → A ≤ 32 → Grown A number ((sideAt A p l, sideAt A q k) ∷ (sideAt A p m, sideAt A q o) ∷ [])
+        (pending.tables (now (heads .entry)) (now (images .entry))) n
+        (pending.tables (now (heads .exit)) (now (images .exit))) (n + 2)) ⌝ }
 {
-    one_part(
-        numbers,
-        lefts,
-        rights,
-        left_images,
-        right_images,
-        n,
-        number,
-        p,
-        m,
-        q,
-        o,
-    );
-    one_part(
-        numbers,
-        lefts,
-        rights,
-        left_images,
-        right_images,
-        n + 1,
-        number,
-        p,
-        l,
-        q,
-        k,
-    );
-}
-
-// Abstractions of two atoms a and b: "s against t under the swap of a and b, and a is demanded fresh for t".
-fn renamed(
-    numbers: &mut [u8; 576],
-    lefts: &mut [u16; 576],
-    rights: &mut [u16; 576],
-    left_images: &mut [u8; 18432],
-    right_images: &mut [u8; 18432],
-    asked_nodes: &mut [u32; 512],
-    first_nodes: &mut [u8; 16384],
-    n: usize,
-    atoms: usize,
-    number: u8,
-    p: Permutation,
-    a: Atom,
-    m: NodeId,
-    q: Permutation,
-    b: Atom,
-    k: NodeId,
-)
-    requires { ⌜ (n < 576) × (atoms ≤ 32) × (a .0 < atoms) × (k .0 < 512) ⌝ }
-    ensures { λ r. ⌜ RenamedTo atoms number (sideAt atoms p m) (a .0) (b .0) (sideAt atoms q k) (pending.tables (now (numbers .entry)) (now (lefts .entry)) (now (rights .entry)) (now («left_images» .entry)) (now («right_images» .entry))) (sheet (now («asked_nodes» .entry)) (now («first_nodes» .entry))) n (pending.tables (now (numbers .exit)) (now (lefts .exit)) (now (rights .exit)) (now («left_images» .exit)) (now («right_images» .exit))) (sheet (now («asked_nodes» .exit)) (now («first_nodes» .exit))) ⌝ }
-{
-    let swapped = permutation::swap_after(a, b, q, atoms);
-    one_part(
-        numbers,
-        lefts,
-        rights,
-        left_images,
-        right_images,
-        n,
-        number,
-        p,
-        m,
-        swapped,
-        k,
-    );
-    demands::raise_side(a, q, atoms, k, number, asked_nodes, first_nodes);
+    one_part(heads, images, n, number, p, m, q, o);
+    one_part(heads, images, n + 1, number, p, l, q, k);
 }
 
 // "Suspensions of one variable X: each atom of the disagreement set is demanded fresh for X".
 fn same_variable(
     s: &[u8],
-    places: &[u16; 512],
-    asked_variables: &mut [u32; 64],
-    first_variables: &mut [u8; 2048],
+    places: &Places,
+    asked: &mut Asked,
+    firsts: &mut Firsts,
     atoms: usize,
     number: u8,
     x: Variable,
@@ -169,36 +118,62 @@ fn same_variable(
     q: Permutation,
     k: NodeId,
 )
-    requires { ⌜ Readied (now s) (now places) atoms × ((m .0 < length (problemOf (now s) .nodes)) × Suspended (formNow (now s) (m .0))) × ((k .0 < length (problemOf (now s) .nodes)) × Suspended (formNow (now s) (k .0))) × (x .0 < 64) ⌝ }
-    ensures { λ r. ⌜ DisagreementRaised (wholeOf (now (s .entry)) atoms (table atoms p) (m .0)) (wholeOf (now (s .entry)) atoms (table atoms q) (k .0)) (x .0) number (sheet (now («asked_variables» .entry)) (now («first_variables» .entry))) (sheet (now («asked_variables» .exit)) (now («first_variables» .exit))) ⌝ }
+    requires { ⌜ Standing (now s) (now places) × (atoms ≡ problemOf (now s) .atoms)
+        × Hangs (now s) (m .0) × Hangs (now s) (k .0) × (x .0 < 64) ⌝ }
+    ensures { λ r. ⌜ DisagreementRaised (wholeOf (now (s .entry)) atoms (table atoms p) (m .0))
+        (wholeOf (now (s .entry)) atoms (table atoms q) (k .0)) (x .0) number
+        (sheet (now (asked .entry)) (now (firsts .entry))) (sheet (now (asked .exit)) (now (firsts .exit))) ⌝ }
 {
     let left = rule::side::whole(s, places, atoms, p, m);
     let right = rule::side::whole(s, places, atoms, q, k);
     let d = permutation::disagreement(left, right, atoms);
-    demands::raise_variable(d, x, number, asked_variables, first_variables);
+    demands::raise_variable(asked, firsts, d, x, number);
+}
+
+// As many equations wait and the same variables are bound as before the step.
+fn stays(outcome: Outcome, state: State) -> Stepped
+    ensures { λ r. ⌜ r ≡ record { outcome = outcome; state = state } ⌝ }
+{
+    Stepped {
+        outcome: outcome,
+        state: state,
+    }
+}
+
+// A step that goes on, and how far the run is then.
+fn goes(waiting: usize, bound: VariableSet, count: usize) -> Stepped
+    ensures { λ r. ⌜ r ≡ goneTo waiting bound count ⌝ }
+{
+    let state = State {
+        waiting: waiting,
+        bound: bound,
+        count: count,
+    };
+    stays(Outcome::Goes, state)
 }
 
 // "X becomes the inverse of P applied to the right side. The binding holds the right side's node and the images acting on it from outside; that node's
 // own swaps aren't folded in."
 fn bind(
     s: &[u8],
-    places: &[u16; 512],
-    order: &mut [u8; 64],
-    roots: &mut [u16; 64],
-    value_images: &mut [u8; 2048],
-    made_by: &mut [u8; 64],
-    count: usize,
-    bound: VariableSet,
+    places: &Places,
+    made: &mut Made,
+    values: &mut Values,
     atoms: usize,
     number: u8,
+    state: State,
     x: Variable,
     p: Permutation,
     m: NodeId,
     q: Permutation,
     k: NodeId,
-) -> VariableSet
-    requires { ⌜ Readied (now s) (now places) atoms × ((m .0 < length (problemOf (now s) .nodes)) × Suspended (formNow (now s) (m .0))) × (made.Keeps (now order) count (bound .0) × (member (bound .0) (x .0) ≡ false) × (x .0 < 64)) ⌝ }
-    ensures { λ r. ⌜ BoundTo atoms (made.tables (now (order .entry)) (now (roots .entry)) (now («value_images» .entry)) (now («made_by» .entry))) count (bound .0) (x .0) (under (inverted (wholeOf (now (s .entry)) atoms (table atoms p) (m .0))) (sideAt atoms q k)) number (made.tables (now (order .exit)) (now (roots .exit)) (now («value_images» .exit)) (now («made_by» .exit))) (r .0) ⌝ }
+) -> Stepped
+    requires { ⌜ Standing (now s) (now places) × (atoms ≡ problemOf (now s) .atoms) × Hangs (now s) (m .0)
+        × bindings.Keeps (now made) (state .count) (state .bound .0) × (member (state .bound .0) (x .0) ≡ false) × (x .0 < 64) ⌝ }
+    ensures { λ z. ⌜ BoundTo atoms number (x .0)
+        (under (inverted (wholeOf (now (s .entry)) atoms (table atoms p) (m .0))) (sideAt atoms q k))
+        (bindings.tables (now (made .entry)) (now (values .entry))) state
+        (bindings.tables (now (made .exit)) (now (values .exit))) z ⌝ }
 {
     let outer = rule::side::whole(s, places, atoms, p, m);
     let back = permutation::invert(outer, atoms);
@@ -207,217 +182,72 @@ fn bind(
         images: images,
         node: k,
     };
-    bindings::add(
-        order,
-        roots,
-        value_images,
-        made_by,
-        count,
-        bound,
-        x,
-        value,
-        number,
-    )
+    let n = state.waiting;
+    let count = state.count;
+    let bound = state.bound;
+    let more = bindings::add(made, values, count, bound, x, value, number);
+    goes(n, more, count + 1)
 }
 
-// What the rule tells of two resolved sides, done for equation `number`, above the n equations that wait.
+// What the rule tells of two resolved sides, done for equation `number`. Of two abstractions of different atoms a and b it goes on with "s against t under
+// the swap of a and b, and a is demanded fresh for t".
 pub fn perform(
     s: &[u8],
-    places: &[u16; 512],
-    numbers: &mut [u8; 576],
-    lefts: &mut [u16; 576],
-    rights: &mut [u16; 576],
-    left_images: &mut [u8; 18432],
-    right_images: &mut [u8; 18432],
-    order: &mut [u8; 64],
-    roots: &mut [u16; 64],
-    value_images: &mut [u8; 2048],
-    made_by: &mut [u8; 64],
-    asked_nodes: &mut [u32; 512],
-    first_nodes: &mut [u8; 16384],
-    asked_variables: &mut [u32; 64],
-    first_variables: &mut [u8; 2048],
+    places: &Places,
+    heads: &mut Heads,
+    images: &mut Images,
+    made: &mut Made,
+    values: &mut Values,
+    asked: &mut Asked,
+    firsts: &mut Firsts,
     atoms: usize,
     number: u8,
-    n: usize,
-    bound: VariableSet,
-    count: usize,
+    state: State,
     act: Act,
     left: Side,
     right: Side,
 ) -> Stepped
-    requires { ⌜ Fit (now s) (now places) atoms n (now order) (bound .0) count left right act ⌝ }
-    ensures { λ z. ⌜ Performed (now (s .entry)) atoms number (tablesOf (pending.tables (now (numbers .entry)) (now (lefts .entry)) (now (rights .entry)) (now («left_images» .entry)) (now («right_images» .entry))) (made.tables (now (order .entry)) (now (roots .entry)) (now («value_images» .entry)) (now («made_by» .entry))) (sheet (now («asked_nodes» .entry)) (now («first_nodes» .entry))) (sheet (now («asked_variables» .entry)) (now («first_variables» .entry)))) n (bound .0) count (tablesOf (pending.tables (now (numbers .exit)) (now (lefts .exit)) (now (rights .exit)) (now («left_images» .exit)) (now («right_images» .exit))) (made.tables (now (order .exit)) (now (roots .exit)) (now («value_images» .exit)) (now («made_by» .exit))) (sheet (now («asked_nodes» .exit)) (now («first_nodes» .exit))) (sheet (now («asked_variables» .exit)) (now («first_variables» .exit)))) z (stepOf (wholeOf (now (s .entry)) atoms (table atoms (left .images)) (left .node .0)) (wholeOf (now (s .entry)) atoms (table atoms (right .images)) (right .node .0)) (sideAt atoms (left .images) (left .node)) (sideAt atoms (right .images) (right .node)) act) ⌝ }
+    requires { ⌜ Fit (now s) (now places) atoms state (now made) left right act ⌝ }
+    ensures { λ z. ⌜ Performed (now (s .entry)) atoms number
+        (tablesOf (pending.tables (now (heads .entry)) (now (images .entry)))
+        (bindings.tables (now (made .entry)) (now (values .entry)))
+        (sheet (now (asked .entry)) (now (firsts .entry)))) state
+        (tablesOf (pending.tables (now (heads .exit)) (now (images .exit)))
+        (bindings.tables (now (made .exit)) (now (values .exit)))
+        (sheet (now (asked .exit)) (now (firsts .exit)))) z
+        (stepTold (now (s .entry)) atoms left right act) ⌝ }
 {
     let p = left.images;
     let l = left.node;
     let q = right.images;
     let r = right.node;
+    let n = state.waiting;
+    let bound = state.bound;
+    let count = state.count;
     match act {
-        Act::Done => Stepped {
-            outcome: Outcome::Goes,
-            waiting: n,
-            bound: bound,
-            count: count,
-        },
-        Act::Clash => Stepped {
-            outcome: Outcome::Clash,
-            waiting: n,
-            bound: bound,
-            count: count,
-        },
-        Act::Inside => Stepped {
-            outcome: Outcome::Inside,
-            waiting: n,
-            bound: bound,
-            count: count,
-        },
-        Act::Protection => Stepped {
-            outcome: Outcome::Protection,
-            waiting: n,
-            bound: bound,
-            count: count,
-        },
+        Act::Done => stays(Outcome::Goes, state),
+        Act::Clash => stays(Outcome::Refuses(Refusal::Clash), state),
+        Act::Inside => stays(Outcome::Refuses(Refusal::Inside), state),
+        Act::Protection => stays(Outcome::Refuses(Refusal::Protection), state),
         Act::Part(m, k) => {
-            one_part(
-                numbers,
-                lefts,
-                rights,
-                left_images,
-                right_images,
-                n,
-                number,
-                p,
-                m,
-                q,
-                k,
-            );
-            Stepped {
-                outcome: Outcome::Goes,
-                waiting: n + 1,
-                bound: bound,
-                count: count,
-            }
+            one_part(heads, images, n, number, p, m, q, k);
+            goes(n + 1, bound, count)
         }
         Act::Parts(i, m, k, o) => {
-            two_parts(
-                numbers,
-                lefts,
-                rights,
-                left_images,
-                right_images,
-                n,
-                number,
-                p,
-                i,
-                m,
-                q,
-                k,
-                o,
-            );
-            Stepped {
-                outcome: Outcome::Goes,
-                waiting: n + 2,
-                bound: bound,
-                count: count,
-            }
+            two_parts(heads, images, n, number, p, i, m, q, k, o);
+            goes(n + 2, bound, count)
         }
         Act::Renamed(a, m, b, k) => {
-            renamed(
-                numbers,
-                lefts,
-                rights,
-                left_images,
-                right_images,
-                asked_nodes,
-                first_nodes,
-                n,
-                atoms,
-                number,
-                p,
-                a,
-                m,
-                q,
-                b,
-                k,
-            );
-            Stepped {
-                outcome: Outcome::Goes,
-                waiting: n + 1,
-                bound: bound,
-                count: count,
-            }
+            let swapped = permutation::swap_after(a, b, q, atoms);
+            one_part(heads, images, n, number, p, m, swapped, k);
+            demands::raise_side(asked, firsts, a, q, atoms, k, number);
+            goes(n + 1, bound, count)
         }
         Act::Same(x) => {
-            same_variable(
-                s,
-                places,
-                asked_variables,
-                first_variables,
-                atoms,
-                number,
-                x,
-                p,
-                l,
-                q,
-                r,
-            );
-            Stepped {
-                outcome: Outcome::Goes,
-                waiting: n,
-                bound: bound,
-                count: count,
-            }
+            same_variable(s, places, asked, firsts, atoms, number, x, p, l, q, r);
+            stays(Outcome::Goes, state)
         }
-        Act::BindLeft(x) => {
-            let more = bind(
-                s,
-                places,
-                order,
-                roots,
-                value_images,
-                made_by,
-                count,
-                bound,
-                atoms,
-                number,
-                x,
-                p,
-                l,
-                q,
-                r,
-            );
-            Stepped {
-                outcome: Outcome::Goes,
-                waiting: n,
-                bound: more,
-                count: count + 1,
-            }
-        }
-        Act::BindRight(x) => {
-            let more = bind(
-                s,
-                places,
-                order,
-                roots,
-                value_images,
-                made_by,
-                count,
-                bound,
-                atoms,
-                number,
-                x,
-                q,
-                r,
-                p,
-                l,
-            );
-            Stepped {
-                outcome: Outcome::Goes,
-                waiting: n,
-                bound: more,
-                count: count + 1,
-            }
-        }
+        Act::BindLeft(x) => bind(s, places, made, values, atoms, number, state, x, p, l, q, r),
+        Act::BindRight(x) => bind(s, places, made, values, atoms, number, state, x, q, r, p, l),
     }
 }

@@ -7,18 +7,23 @@ use mathlib.Core.Path.{_≡_, refl, sym, _∙_, ap, subst}
 use mathlib.Core.Logic.{_≢_}
 use mathlib.Core.Bool.{Bool, true, false, cond}
 use mathlib.Core.List.{List, [], _∷_, _++_, map, map-append, map-id, append-assoc, append-nil, List·Memᴰ, List·Memᴰ·head, List·Memᴰ·tail}
-use lib.ListN.{length, getD, take, drop, set, replicate, length-append, length-take, length-drop, List·getD-append, length-map, length-replicate, length-set, drop-of-length-le, replicate-append-replicate}
+use lib.ListN.{length, getD, take, drop, set, replicate, length-append, length-take, length-drop, List·getD-append, length-map, length-set}
+use lib.ListN.{drop-of-length-le, replicate-append-replicate}
 use lib.Seq.{take-at, set-at, set-append-left, append-snoc, length-take-le, getD-take, getD-set-same, getD-set-other, drop-cons}
 use lib.Dec.{eqb}
 use borrow.Author.Tests.{eq-eqb, ne-eqb}
 use Rattle.permutation.specs.Swaps.{Swaps, swapped, act, Within, swapsIn}
-use Rattle.permutation.specs.Table.{Table, image, from, upto, tabulate, identity, after, placeFrom, place, inverted, ofSwaps, swappedAfter, kept, disagreement}
+use Rattle.permutation.specs.Table.{Table, image, from, upto, tabulate, identity, after, placeFrom, inverted, ofSwaps, swappedAfter, kept}
+use Rattle.permutation.specs.Table.{disagreement}
 use Rattle.permutation.specs.Store.{table, padded, ofTable, disagreeAt}
 use Rattle.permutation.specs.declared.Permutation.{Permutation}
 use Rattle.sets.specs.Bits.{member, inserted, membersFrom, members, ofList, among}
 use Rattle.sets.proofs.Bits.{member-past, ofList-append, ofList-lt, member-ofList}
-use Rattle.permutation.proofs.Swaps.{by-eq, act-append, swapped-left, swapped-right, swapped-other}
-use Rattle.permutation.proofs.Table.{by-lt, image-out, mem-disagreement, table-extensional, getD-default, image-map, image-tabulate, length-from, length-tabulate, length-identity, length-after, length-inverted, length-swappedAfter, length-ofSwaps, image-ofSwaps, ofSwaps-none}
+use Rattle.names.proofs.Equal.{by-eq}
+use Rattle.permutation.proofs.Swaps.{act-append, swapped-left, swapped-right, swapped-other}
+use Rattle.permutation.proofs.Table.{by-lt, image-out, mem-disagreement, table-extensional, getD-default, image-map, image-tabulate, length-from}
+use Rattle.permutation.proofs.Table.{length-tabulate, length-after, length-inverted, length-swappedAfter, length-ofSwaps, image-ofSwaps}
+use Rattle.permutation.proofs.Table.{ofSwaps-none}
 
 -- ---- table and store
 
@@ -39,9 +44,6 @@ pub table-ofTable : (n : ℕ) (P : Table) → length P ≡ n → table n (ofTabl
 unfolding table ofTable padded
 table-ofTable n P l = take-at P (replicate (32 - length P) 0) n l
 
-pub table-identity : (n : ℕ) → table n (ofTable (identity n)) ≡ identity n
-table-identity n = table-ofTable n (identity n) (length-identity n)
-
 pub table-after : (n : ℕ) (P Q : Table) → length Q ≡ n → table n (ofTable (after P Q)) ≡ after P Q
 table-after n P Q l = table-ofTable n (after P Q) (length-after P Q ∙ l)
 
@@ -53,10 +55,6 @@ table-ofSwaps n π = table-ofTable n (ofSwaps n π) (length-ofSwaps n π)
 
 pub table-swappedAfter : (n a b : ℕ) (P : Table) → length P ≡ n → table n (ofTable (swappedAfter a b P)) ≡ swappedAfter a b P
 table-swappedAfter n a b P l = table-ofTable n (swappedAfter a b P) (length-swappedAfter a b P ∙ l)
-
-pub length-padded : (P : Table) → length P ≤ 32 → length (padded P) ≡ 32
-unfolding padded
-length-padded P h = simp (length-append, length-replicate) (omega arith)
 
 -- A permutation is the table that its store holds.
 pub stored : (p : Permutation) (P : Table) → p .images ≡ padded P → p ≡ ofTable P
@@ -163,7 +161,9 @@ module _ (n : ℕ) (P : Table) (l : length P ≡ n) (i : ℕ) (h : 0 < i) (k : i
   pub invert-store : image P (i - 1) < n → set (invertedFrom n P i) (image P (i - 1)) (i - 1) ≡ invertedFrom n P (i - 1)
   invert-store m =
       store-at n (image P (i - 1)) (i - 1) (λ a. placeFrom i a (drop i P)) m
-      ∙ ap padded (sym (tabulate-same n (λ a. placeFrom (i - 1) a (drop (i - 1) P)) (λ a. cond (eqb a (image P (i - 1))) (i - 1) (placeFrom i a (drop i P))) (λ a j. invert-turn a)))
+      ∙ ap padded (sym
+      (tabulate-same n (λ a. placeFrom (i - 1) a (drop (i - 1) P)) (λ a. cond (eqb a (image P (i - 1))) (i - 1) (placeFrom i a (drop i P)))
+      (λ a j. invert-turn a)))
 
   pub invert-skip : n ≤ image P (i - 1) → invertedFrom n P i ≡ invertedFrom n P (i - 1)
   invert-skip m =

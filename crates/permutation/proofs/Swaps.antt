@@ -4,17 +4,9 @@ use native.Mathlib.Omega.{arith}
 use mathlib.Core.Path.{_≡_, refl, sym, _∙_, ap}
 use mathlib.Core.Logic.{_≢_, _↔_, _⊎_, inl, inr}
 use mathlib.Core.List.{[], _∷_, _++_, append-assoc, append-nil, List·Memᴰ, List·Memᴰ·head, List·Memᴰ·tail, Memᴰ·append-left, Memᴰ·append-right}
-use native.Mathlib.Decide.{ℕ-discrete}
 use borrow.Author.Tests.{eq-eqb, ne-eqb}
+use Rattle.names.proofs.Equal.{by-eq}
 use Rattle.permutation.specs.Swaps.{Swaps, swapped, act, inverse, Disagree, atoms, Within}
-
--- Split on equality of two atoms.
-pub by-eq : (a b : ℕ) {P : Type 0} → (a ≡ b → P) → (a ≢ b → P) → P
-by-eq a b {P} f g = go (ℕ-discrete a b)
-  where
-    go : Dec (a ≡ b) → P
-    go (yes p) = f p
-    go (no n) = g n
 
 pub swapped-left : (a b : ℕ) → swapped a b a ≡ b
 unfolding swapped
@@ -62,9 +54,6 @@ act-injective π {a} {b} p = cc (inverse-act π a, inverse-act π b)
 
 pub act-distinct : (π : Swaps) {a b : ℕ} → a ≢ b → act π a ≢ act π b
 act-distinct π n p = n (act-injective π p)
-
-pub act-to-inverse : (π : Swaps) (a b : ℕ) → (act π a ≡ b) ↔ (a ≡ act (inverse π) b)
-act-to-inverse π a b = (λ p. cc (inverse-act π a), λ p. cc (act-inverse π b))
 
 pub inverse-append : (π ρ : Swaps) → inverse (π ++ ρ) ≡ inverse ρ ++ inverse π
 inverse-append [] ρ = sym (append-nil (inverse ρ))

@@ -12,8 +12,11 @@ use lib.Seq.{ext-getD}
 use lib.Dec.{eqb}
 use borrow.Author.Tests.{eq-eqb, ne-eqb, eqb-false, not-true}
 use Rattle.permutation.specs.Swaps.{Swaps, swapped, act, inverse, Disagree, Alike, Within}
-use Rattle.permutation.specs.Table.{Table, image, from, upto, tabulate, identity, after, placeFrom, place, inverted, ofSwaps, swappedAfter, kept, disagreement, Permutes, Unwound, before, unwind, cycles, swapsOf}
-use Rattle.permutation.proofs.Swaps.{by-eq, swapped-right, swapped-other, swapped-twice, swapped-within, act-append, act-inverse, act-injective, within, outside, within-append, within-inverse}
+use Rattle.permutation.specs.Table.{Table, image, from, upto, tabulate, identity, after, placeFrom, place, inverted, ofSwaps, swappedAfter, kept}
+use Rattle.permutation.specs.Table.{disagreement, Permutes, Unwound, before, unwind, cycles, swapsOf}
+use Rattle.names.proofs.Equal.{by-eq}
+use Rattle.permutation.proofs.Swaps.{swapped-right, swapped-other, swapped-twice, swapped-within, act-append, act-inverse, act-injective, within}
+use Rattle.permutation.proofs.Swaps.{outside, within-append, within-inverse}
 
 -- Split on whether an atom has a place.
 pub by-lt : (a n : ℕ) {R : Type 0} → (a < n → R) → (n ≤ a → R) → R
@@ -114,13 +117,6 @@ after-ofSwaps n π ρ w =
     ∙ ap (act π) (image-ofSwaps n ρ a k)
     ∙ sym (image-ofSwaps n (π ++ ρ) a k ∙ act-append π ρ a)
 
-pub swappedAfter-ofSwaps : (n a b : ℕ) (π : Swaps) → swappedAfter a b (ofSwaps n π) ≡ ofSwaps n ((a, b) ∷ π)
-swappedAfter-ofSwaps n a b π =
-    table-extensional (swappedAfter a b (ofSwaps n π)) (ofSwaps n ((a, b) ∷ π)) (simp (length-swappedAfter, length-ofSwaps)) λ c h.
-    let k : c < length (ofSwaps n π) = rw length-swappedAfter at h in
-    let m : c < n = rw length-ofSwaps at k in
-    image-swappedAfter a b (ofSwaps n π) c k ∙ ap (swapped a b) (image-ofSwaps n π c m) ∙ sym (image-ofSwaps n ((a, b) ∷ π) c m)
-
 -- Alike lists have one table.
 pub ofSwaps-alike : (n : ℕ) (π ρ : Swaps) → ((a : ℕ) → a < n → act π a ≡ act ρ a) → ofSwaps n π ≡ ofSwaps n ρ
 ofSwaps-alike n π ρ h =
@@ -150,7 +146,8 @@ pub permutes-after : (P Q : Table) → length P ≡ length Q → Permutes P → 
 permutes-after P Q l p q = record {
   inside = λ a h.
       let k : a < length Q = rw length-after at h in
-      rw (image-after P Q a l, length-after) (let m : image P (image Q a) < length P = p .inside (image Q a) (let i = q .inside a k in omega arith) in omega arith);
+      rw (image-after P Q a l, length-after)
+      (let m : image P (image Q a) < length P = p .inside (image Q a) (let i = q .inside a k in omega arith) in omega arith);
   distinct = λ a b h k e.
       let h′ : a < length Q = rw length-after at h in
       let k′ : b < length Q = rw length-after at k in
@@ -161,7 +158,8 @@ permutes-after P Q l p q = record {
 
 pub permutes-swappedAfter : (a b : ℕ) (P : Table) → a < length P → b < length P → Permutes P → Permutes (swappedAfter a b P)
 permutes-swappedAfter a b P h k p = record {
-  inside = λ c i. rw (image-swappedAfter-within a b P c h k, length-swappedAfter) (swapped-within a b (image P c) h k (p .inside c (rw length-swappedAfter at i)));
+  inside =
+      λ c i. rw (image-swappedAfter-within a b P c h k, length-swappedAfter) (swapped-within a b (image P c) h k (p .inside c (rw length-swappedAfter at i)));
   distinct = λ c d i j e.
       p .distinct c d (rw length-swappedAfter at i) (rw length-swappedAfter at j)
       (act-injective ((a, b) ∷ []) (sym (image-swappedAfter-within a b P c h k) ∙ e ∙ image-swappedAfter-within a b P d h k));
@@ -221,7 +219,8 @@ unwind-fixes (suc k) P p m h f =
     by-eq (image P p) p (λ e. rw (eq-eqb (image P p) p e, unwind) e) λ n.
     let i = m .inside p h in
     rw (ne-eqb (image P p) p n, unwind)
-    (unwinds k (swappedAfter p (image P p) P) (image P p) (permutes-swappedAfter p (image P p) P h i m) (rw length-swappedAfter i) .stays p (unwinds-fixed P p m h))
+    (unwinds k (swappedAfter p (image P p) P) (image P p) (permutes-swappedAfter p (image P p) P h i m) (rw length-swappedAfter i) .stays p
+    (unwinds-fixed P p m h))
 
 -- Every atom below n is still to come, or fixed.
 abbrev Settled : List ℕ → Table → Type 0

@@ -6,32 +6,28 @@ use mathlib.Core.Logic.{_≢_}
 use mathlib.Core.Bool.{true}
 use mathlib.Core.List.{List, [], _∷_, _++_, append-assoc}
 use borrow.Author.Tests.{ne-eqb, le-leb}
-use lib.ListN.{length, drop, length-append}
-use lib.Seq.{take-at, drop-at}
-use Rattle.field.specs.Field.{whole, front, bodied, long, bytes2, bytes4, fieldBytes}
+use lib.ListN.{length, drop}
+use lib.Seq.{take-at}
+use Rattle.field.specs.Field.{front, long, bytes2, bytes4, fieldBytes}
 use Rattle.run.specs.Meaning.{Binding, Fact}
 use Rattle.run.specs.Answer.{bindingBytes, factBytes, answerBytes, Verdict, accepted, refusal, given, written}
-use Rattle.printer.specs.Lines.{known, fieldLine, answerLines, solverLines, acceptedLine, bindLine, freshLine}
+use Rattle.layout.specs.Parts.{partFits, part}
+use Rattle.layout.proofs.Back.{field-front}
+use Rattle.printer.specs.Lines.{fieldLine, answerLines, solverLines, acceptedLine, bindLine, freshLine}
 use Rattle.printer.specs.Printed.{bindLines, freshLines, verdictLines, SmallBindings}
 use Rattle.printer.proofs.Walking.{lines-more, lines-cut}
 
--- A field's bytes are read back as that field.
 two-bytes : (n : ℕ) → n < 65536 → n / 256 % 256 * 256 + n % 256 ≡ n
 two-bytes n h = omega arith
 
-pub field-front : (tag : ℕ) (body rest : List ℕ) → length body < 65536 → front (fieldBytes tag body ++ rest) ≡ whole tag body rest
-unfolding fieldBytes bytes2 front bodied
-field-front tag body rest h =
-    let k : length body ≤ length (body ++ rest) = omega (arith, length-append body rest) in
-    rw (two-bytes (length body) h, le-leb (length body) (length (body ++ rest)) k, take-at body rest (length body) refl, drop-at body rest (length body) refl)
-
-field-lines : (tag : ℕ) (body rest : List ℕ) → length body < 65536 → known tag (length body) ≡ true
+field-lines : (tag : ℕ) (body rest : List ℕ) → length body < 65536 → partFits tag (length body) ≡ true
     → answerLines (fieldBytes tag body ++ rest) ≡ fieldLine tag body ++ answerLines rest
 field-lines tag body rest h k = lines-more (fieldBytes tag body ++ rest) tag body rest (field-front tag body rest h) k
 
 -- One field each.
-accepted-field : (steps : ℕ) (rest : List ℕ) → steps < 4294967296 → answerLines (fieldBytes 0x4E (bytes4 steps) ++ rest) ≡ acceptedLine steps ++ answerLines rest
-unfolding known fieldLine bytes4 bytes2
+accepted-field : (steps : ℕ) (rest : List ℕ) → steps < 4294967296
+    → answerLines (fieldBytes 0x4E (bytes4 steps) ++ rest) ≡ acceptedLine steps ++ answerLines rest
+unfolding partFits fieldLine part bytes4 bytes2
 accepted-field steps rest h =
     field-lines 0x4E (bytes4 steps) rest (omega arith) refl ∙ ap (λ (n : ℕ). acceptedLine n ++ answerLines rest) number
   where
@@ -40,13 +36,13 @@ accepted-field steps rest h =
 
 binding-field : (variable node : ℕ) (images rest : List ℕ) → node < 65536 → 3 + length images < 65536
     → answerLines (fieldBytes 0x40 (variable ∷ bytes2 node ++ images) ++ rest) ≡ bindLine variable node images ++ answerLines rest
-unfolding known fieldLine bytes2
+unfolding partFits fieldLine part bytes2
 binding-field variable node images rest h k =
     field-lines 0x40 (variable ∷ bytes2 node ++ images) rest (omega arith) (le-leb 3 (length (variable ∷ bytes2 node ++ images)) (omega arith))
     ∙ ap (λ (n : ℕ). bindLine variable n images ++ answerLines rest) (two-bytes node h)
 
 fact-field : (atom variable : ℕ) (rest : List ℕ) → answerLines (fieldBytes 0x41 (atom ∷ variable ∷ []) ++ rest) ≡ freshLine atom variable ++ answerLines rest
-unfolding known fieldLine
+unfolding partFits fieldLine part
 fact-field atom variable rest = field-lines 0x41 (atom ∷ variable ∷ []) rest (omega arith) refl
 
 -- All of a kind.
@@ -59,7 +55,11 @@ binding-lines : (bs : List Binding) (rest : List ℕ) → SmallBindings bs → a
 unfolding bindingBytes bindLines
 binding-lines [] rest h = refl
 binding-lines (b ∷ bs) rest h =
-    rw (append-assoc (fieldBytes 0x40 (b .variable ∷ bytes2 (b .value .node) ++ b .value .images)) (bindingBytes bs) rest, append-assoc (bindLine (b .variable) (b .value .node) (b .value .images)) (bindLines bs) (answerLines rest))
+    rw (
+      append-assoc (fieldBytes 0x40 (b .variable ∷ bytes2 (b .value .node) ++ b .value .images)) (bindingBytes bs) rest,
+      append-assoc
+          (bindLine (b .variable) (b .value .node) (b .value .images)) (bindLines bs) (answerLines rest),
+    )
     (binding-field (b .variable) (b .value .node) (b .value .images) (bindingBytes bs ++ rest) (h .0 .0) (h .0 .1)
     ∙ ap (λ (l : List ℕ). bindLine (b .variable) (b .value .node) (b .value .images) ++ l) (binding-lines bs rest (h .1)))
 
@@ -81,6 +81,10 @@ pub printed : (v : Verdict) (output : List ℕ) → Printable v output
     → solverLines (given v output .number) (given v output .place) (given v output .output) ≡ verdictLines v
 unfolding given written solverLines verdictLines
 printed (accepted steps bs fs) output h =
-    rw (le-leb (length (answerBytes steps bs fs)) (length output) (h .2), take-at (answerBytes steps bs fs) (drop (length (answerBytes steps bs fs)) output) (length (answerBytes steps bs fs)) refl)
+    rw (
+      le-leb (length (answerBytes steps bs fs)) (length output) (h .2),
+      take-at (answerBytes steps bs fs) (drop (length (answerBytes steps bs fs)) output)
+          (length (answerBytes steps bs fs)) refl,
+    )
     (answer-lines steps bs fs (h .0) (h .1))
 printed (refusal number place) output h = rw (ne-eqb number 0 h)

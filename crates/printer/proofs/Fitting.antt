@@ -11,11 +11,13 @@ use mathlib.Core.List.{List, [], _∷_, _++_}
 use borrow.Author.Tests.{eq-eqb, ne-eqb}
 use lib.ListN.{length, take, drop, length-append, length-take, length-drop}
 use lib.Seq.{take-all, take-at, length-take-le}
-use Rattle.permutation.proofs.Swaps.{by-eq}
+use Rattle.names.proofs.Equal.{by-eq}
 use Rattle.field.specs.Field.{Field, cut, whole, front, byte, word, long, Bytes, Stands}
 use Rattle.field.proofs.Standing.{stands, bytes-take, bytes-drop, bytes-body}
 use Rattle.printer.specs.Placed.{pasted, reached, Placed}
-use Rattle.printer.specs.Lines.{decimal, spaced, images, acceptedWord, refusedWord, bindWord, freshWord, newline, acceptedLine, refusedLine, bindLine, freshLine, known, fieldLine, lineOf, linesFrom, answerLines, solverLines, judgeLine}
+use Rattle.printer.specs.Lines.{decimal, spaced, images, acceptedWord, refusedWord, bindWord, freshWord, newline, acceptedLine, refusedLine, bindLine}
+use Rattle.layout.specs.Parts.{partFits}
+use Rattle.printer.specs.Lines.{freshLine, fieldLine, lineOf, linesFrom, answerLines, solverLines, judgeLine}
 use Rattle.printer.proofs.Spelling.{decimal-small, decimal-more}
 use Rattle.printer.proofs.Walking.{steps-length, binding-length, fact-length, steps-line, binding-line, fact-line}
 
@@ -53,40 +55,81 @@ accepted-length steps h =
 pub refused-length : (number place : ℕ) → number < 256 → place < 18446744073709551616 → length (refusedLine number place) ≤ 33
 unfolding refusedLine
 refused-length number place h k =
-    omega (arith, length-append (refusedWord ++ decimal number ++ spaced place) newline, length-append (refusedWord ++ decimal number) (spaced place), length-append refusedWord (decimal number), spaced-length place, byte-digits number h, decimal-length 19 place (omega arith))
+    omega (
+      arith,
+      length-append (refusedWord ++ decimal number ++ spaced place) newline,
+      length-append (refusedWord ++ decimal number) (spaced place),
+      length-append refusedWord (decimal number),
+      spaced-length place,
+      byte-digits number h,
+      decimal-length 19 place (omega arith),
+    )
 
 bind-length : (variable node : ℕ) (s : List ℕ) → variable < 256 → node < 65536 → Bytes s → length (bindLine variable node s) ≤ 15 + 4 * length s
 unfolding bindLine
 bind-length variable node s h k b =
-    omega (arith, length-append (bindWord ++ decimal variable ++ spaced node ++ images s) newline, length-append (bindWord ++ decimal variable ++ spaced node) (images s), length-append (bindWord ++ decimal variable) (spaced node), length-append bindWord (decimal variable), spaced-length node, byte-digits variable h, decimal-length 4 node (omega arith), images-length s b)
+    omega (
+      arith,
+      length-append (bindWord ++ decimal variable ++ spaced node ++ images s) newline,
+      length-append (bindWord ++ decimal variable ++ spaced node)
+          (images s),
+      length-append (bindWord ++ decimal variable) (spaced node),
+      length-append bindWord (decimal variable),
+      spaced-length node,
+      byte-digits variable
+          h,
+      decimal-length 4 node (omega arith),
+      images-length s b,
+    )
 
 fresh-length : (atom variable : ℕ) → atom < 256 → variable < 256 → length (freshLine atom variable) ≤ 14
 unfolding freshLine
 fresh-length atom variable h k =
-    omega (arith, length-append (freshWord ++ decimal atom ++ spaced variable) newline, length-append (freshWord ++ decimal atom) (spaced variable), length-append freshWord (decimal atom), spaced-length variable, byte-digits atom h, byte-digits variable k)
+    omega (
+      arith,
+      length-append (freshWord ++ decimal atom ++ spaced variable) newline,
+      length-append (freshWord ++ decimal atom) (spaced variable),
+      length-append freshWord (decimal atom),
+      spaced-length variable,
+      byte-digits atom h,
+      byte-digits variable k,
+    )
 
 -- A field's line takes at most four bytes for each byte of the field.
-field-length : (tag : ℕ) (s : List ℕ) → Bytes s → known tag (length s) ≡ true → length (fieldLine tag s) ≤ 4 * (3 + length s)
+field-length : (tag : ℕ) (s : List ℕ) → Bytes s → partFits tag (length s) ≡ true → length (fieldLine tag s) ≤ 4 * (3 + length s)
 field-length tag s b k =
     by-eq tag 0x4E
     (λ e. rw (steps-line tag s e) (omega (arith, accepted-length (long s 0) (omega (arith, b 0, b 1, b 2, b 3)), steps-length tag (length s) e k)))
     (λ d. by-eq tag 0x40
     (λ e. rw (binding-line tag s d e)
-    (omega (arith, bind-length (byte s 0) (word s 1) (drop 3 s) (b 0) (omega (arith, b 1, b 2)) (bytes-drop 3 s b), length-drop 3 s, binding-length tag (length s) d e k)))
+    (omega (
+      arith,
+      bind-length (byte s 0) (word s 1) (drop 3 s) (b 0) (omega (arith, b 1, b 2)) (bytes-drop 3 s b),
+      length-drop 3 s,
+      binding-length tag
+          (length s) d e k,
+    )))
     (λ e. rw (fact-line tag s d e) (omega (arith, fresh-length (byte s 0) (byte s 1) (b 0) (b 1), fact-length tag (length s) d e k))))
 
 -- And so do the lines of a field and of the rest, if those of the rest do.
 module _ (s : List ℕ) (b : Bytes s) (more : List ℕ → List ℕ) (short : (r : List ℕ) → Bytes r → length (more r) ≤ 4 * length r) where
-  one-length : (tag : ℕ) (body rest : List ℕ) → Stands s tag body rest → (t : Bool) → known tag (length body) ≡ t
+  one-length : (tag : ℕ) (body rest : List ℕ) → Stands s tag body rest → (t : Bool) → partFits tag (length body) ≡ t
       → length (cond t (fieldLine tag body ++ more rest) []) ≤ 4 * length s
   one-length tag body rest w false e = omega arith
   one-length tag body rest w true e =
       let r : length (more rest) ≤ 4 * length rest = short rest (rw (w .the-rest) (bytes-drop (3 + length body) s b)) in
-      omega (arith, length-append (fieldLine tag body) (more rest), field-length tag body (bytes-body s tag body rest b w) e, w .fits, ap length (w .the-rest), length-drop (3 + length body) s)
+      omega (
+        arith,
+        length-append (fieldLine tag body) (more rest),
+        field-length tag body (bytes-body s tag body rest b w) e,
+        w .fits,
+        ap length (w .the-rest),
+        length-drop (3 + length body) s,
+      )
 
   line-length : (f : Field) → front s ≡ f → length (lineOf more f) ≤ 4 * length s
   line-length cut e = omega arith
-  line-length (whole tag body rest) e = one-length tag body rest (stands s tag body rest e) (known tag (length body)) refl
+  line-length (whole tag body rest) e = one-length tag body rest (stands s tag body rest e) (partFits tag (length body)) refl
 
 lines-from-length : (k : ℕ) (s : List ℕ) → Bytes s → length (linesFrom k s) ≤ 4 * length s
 unfolding linesFrom

@@ -102,4 +102,6 @@ _then_ {d} {d'} {d''} {at} {r} {r'} {s} {t} p q =
     clipped = omega arith
 
     whole : pasted (pasted d at s) (min (length d) (at + length s)) t ≡ pasted d at (s ++ t)
-    whole = ap (λ (n : ℕ). pasted (pasted d at s) (min n (at + length s)) t) (sym (pasted-length d at s)) ∙ pasted-clipped (pasted d at s) (at + length s) t ∙ pasted-then d at s t
+    whole =
+        ap (λ (n : ℕ). pasted (pasted d at s) (min n (at + length s)) t) (sym (pasted-length d at s)) ∙ pasted-clipped (pasted d at s) (at + length s) t
+        ∙ pasted-then d at s t

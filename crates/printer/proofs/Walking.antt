@@ -15,23 +15,24 @@ use Rattle.field.specs.declared.AtFront.the-variants.{Whole, Cut, End}
 use Rattle.field.proofs.Standing.{stands}
 use Rattle.field.proofs.Told.{at-whole, at-cut, at-end}
 use Rattle.printer.specs.Placed.{Placed}
-use Rattle.printer.specs.Lines.{known, fieldLine, lineOf, linesFrom, answerLines, acceptedLine, bindLine, freshLine}
+use Rattle.layout.specs.Parts.{partFits, part}
+use Rattle.printer.specs.Lines.{fieldLine, lineOf, linesFrom, answerLines, acceptedLine, bindLine, freshLine}
 use Rattle.printer.proofs.Placing.{placed-nothing, _then_}
 
 no : false ≡ true → ⊥
 no e = let z : _≡_ {A = ℕ} 0 1 = cc in omega arith
 
 -- How long the body of each kind of field is.
-pub steps-length : (tag n : ℕ) → tag ≡ 0x4E → known tag n ≡ true → n ≡ 4
-unfolding known
+pub steps-length : (tag n : ℕ) → tag ≡ 0x4E → partFits tag n ≡ true → n ≡ 4
+unfolding partFits
 steps-length tag n e k = eqb-true n 4 (rw (eq-eqb tag 0x4E e) at k)
 
-pub binding-length : (tag n : ℕ) → tag ≢ 0x4E → tag ≡ 0x40 → known tag n ≡ true → 3 ≤ n
-unfolding known
+pub binding-length : (tag n : ℕ) → tag ≢ 0x4E → tag ≡ 0x40 → partFits tag n ≡ true → 3 ≤ n
+unfolding partFits
 binding-length tag n d e k = leb-true 3 n (rw (ne-eqb tag 0x4E d, eq-eqb tag 0x40 e) at k)
 
-pub fact-length : (tag n : ℕ) → tag ≢ 0x4E → tag ≢ 0x40 → known tag n ≡ true → n ≡ 2
-unfolding known
+pub fact-length : (tag n : ℕ) → tag ≢ 0x4E → tag ≢ 0x40 → partFits tag n ≡ true → n ≡ 2
+unfolding partFits
 fact-length tag n d e k = go (eqb tag 0x41) (rw (ne-eqb tag 0x4E d, ne-eqb tag 0x40 e) at k)
   where
     go : (b : Bool) → cond b (eqb n 2) false ≡ true → n ≡ 2
@@ -40,15 +41,15 @@ fact-length tag n d e k = go (eqb tag 0x41) (rw (ne-eqb tag 0x4E d, ne-eqb tag 0
 
 -- The line of each.
 pub steps-line : (tag : ℕ) (s : List ℕ) → tag ≡ 0x4E → fieldLine tag s ≡ acceptedLine (long s 0)
-unfolding fieldLine
+unfolding fieldLine part
 steps-line tag s e = rw (eq-eqb tag 0x4E e)
 
 pub binding-line : (tag : ℕ) (s : List ℕ) → tag ≢ 0x4E → tag ≡ 0x40 → fieldLine tag s ≡ bindLine (byte s 0) (word s 1) (drop 3 s)
-unfolding fieldLine
+unfolding fieldLine part
 binding-line tag s d e = rw (ne-eqb tag 0x4E d, eq-eqb tag 0x40 e)
 
 pub fact-line : (tag : ℕ) (s : List ℕ) → tag ≢ 0x4E → tag ≢ 0x40 → fieldLine tag s ≡ freshLine (byte s 0) (byte s 1)
-unfolding fieldLine
+unfolding fieldLine part
 fact-line tag s d e = rw (ne-eqb tag 0x4E d, ne-eqb tag 0x40 e)
 
 -- Room for more fields than there are makes no difference.
@@ -72,7 +73,7 @@ lines-enough (suc j) zero (b ∷ s) p q = absurd (omega arith)
 lines-enough (suc j) (suc k) s p q = line-alike (linesFrom j) (linesFrom k) s (front s) refl (λ r h. lines-enough j k r (omega arith) (omega arith))
 
 -- The lines of an answer: those of the field at its front, and those of the rest; none where no field with a line is there.
-pub lines-more : (s : List ℕ) (tag : ℕ) (body rest : List ℕ) → front s ≡ whole tag body rest → known tag (length body) ≡ true
+pub lines-more : (s : List ℕ) (tag : ℕ) (body rest : List ℕ) → front s ≡ whole tag body rest → partFits tag (length body) ≡ true
     → answerLines s ≡ fieldLine tag body ++ answerLines rest
 unfolding answerLines linesFrom
 lines-more s tag body rest e k =
@@ -83,7 +84,7 @@ lines-more s tag body rest e k =
     one : linesFrom (suc (length s)) s ≡ fieldLine tag body ++ linesFrom (length s) rest
     one = rw (e, k)
 
-pub lines-unknown : (s : List ℕ) (tag : ℕ) (body rest : List ℕ) → front s ≡ whole tag body rest → known tag (length body) ≡ false → answerLines s ≡ []
+pub lines-unknown : (s : List ℕ) (tag : ℕ) (body rest : List ℕ) → front s ≡ whole tag body rest → partFits tag (length body) ≡ false → answerLines s ≡ []
 unfolding answerLines linesFrom
 lines-unknown s tag body rest e k = lines-enough (length s) (suc (length s)) s (omega arith) (omega arith) ∙ none
   where
@@ -132,10 +133,11 @@ module _ (d : List ℕ) (at : ℕ) (answer d' : List ℕ) (r : ℕ) (rest : List
     pub body-length : length (take n (drop 3 rest)) ≡ n
     body-length = length-take-le n (drop 3 rest) (omega (arith, length-drop 3 rest, whole-fits))
 
-    pub midway-unknown : known tag n ≡ false → Placed d at (answerLines answer) r d'
+    pub midway-unknown : partFits tag n ≡ false → Placed d at (answerLines answer) r d'
     midway-unknown k = midway-end m (lines-unknown rest tag _ _ (at-whole rest tag n e .0 .the-front) (rw body-length k))
 
-    pub midway-more : (r' : ℕ) (d'' : List ℕ) → known tag n ≡ true → Placed d' r (fieldLine tag (take n (drop 3 rest))) r' d'' → Midway d at answer d'' r' (drop (3 + n) rest)
+    pub midway-more : (r' : ℕ) (d'' : List ℕ) → partFits tag n ≡ true → Placed d' r (fieldLine tag (take n (drop 3 rest))) r' d''
+        → Midway d at answer d'' r' (drop (3 + n) rest)
     midway-more r' d'' k p =
         record {
           before = m .before ++ fieldLine tag (take n (drop 3 rest));

@@ -1,10 +1,12 @@
 -- Document 01, section "Program and fixed examples": the lines that are printed, as lists of bytes. Definitions alone.
 use Prim.Native.Nat.{ℕ, zero, suc, _+_, _/_, _%_}
-use mathlib.Core.Bool.{Bool, false, cond}
+use mathlib.Core.Bool.{cond}
 use mathlib.Core.List.{List, [], _∷_, _++_}
-use lib.ListN.{length, take, drop}
-use lib.Dec.{eqb, leb, ltb}
-use Rattle.field.specs.Field.{Field, cut, whole, byte, word, long, front}
+use lib.ListN.{length, take}
+use lib.Dec.{eqb, ltb}
+use Rattle.field.specs.Field.{Field, cut, whole, front}
+use Rattle.layout.specs.Parts.{Part, partFits, part}
+use Rattle.layout.specs.Parts as layout
 
 -- "All numbers are decimal": a number's digits, the first of them not 0 unless it is the only one. There are fewer than `most`, which falls.
 unfoldable pub digits : ℕ → ℕ → List ℕ
@@ -58,21 +60,19 @@ bindLine variable node s = bindWord ++ decimal variable ++ spaced node ++ images
 unfoldable pub freshLine : ℕ → ℕ → List ℕ
 freshLine atom variable = freshWord ++ decimal atom ++ spaced variable ++ newline
 
--- Which fields an answer has, by tag and length of the body: "4E, steps (4 bytes)", "40 ..: variable, node (2 bytes), image of each atom (A bytes)",
--- "41 ..: atom, variable".
-unfoldable pub known : ℕ → ℕ → Bool
-known tag n = cond (eqb tag 0x4E) (eqb n 4) (cond (eqb tag 0x40) (leb 3 n) (cond (eqb tag 0x41) (eqb n 2) false))
+-- The line of a field of the answer (layout, specs/Parts.antt).
+abbrev pub partLine : Part → List ℕ
+partLine (layout.steps n) = acceptedLine n
+partLine (layout.binding X n images) = bindLine X n images
+partLine (layout.fact a X) = freshLine a X
 
--- The line of such a field.
 unfoldable pub fieldLine : ℕ → List ℕ → List ℕ
-fieldLine tag s =
-    cond (eqb tag 0x4E) (acceptedLine (long s 0))
-    (cond (eqb tag 0x40) (bindLine (byte s 0) (word s 1) (drop 3 s)) (freshLine (byte s 0) (byte s 1)))
+fieldLine tag s = partLine (part tag s)
 
 -- "in answer order": a line for each field, and then the lines of the rest. At a field that is cut, or that no answer has, the lines end.
 abbrev pub lineOf : (List ℕ → List ℕ) → Field → List ℕ
 lineOf more cut = []
-lineOf more (whole tag body rest) = cond (known tag (length body)) (fieldLine tag body ++ more rest) []
+lineOf more (whole tag body rest) = cond (partFits tag (length body)) (fieldLine tag body ++ more rest) []
 
 -- There are at most as many fields as bytes.
 unfoldable pub linesFrom : ℕ → List ℕ → List ℕ

@@ -7,7 +7,9 @@ ghost use Prim.Native.Nat.{ℕ, _+_, _≤_, _<_};
 ghost use lib.ListN.{length, take, drop};
 ghost use Rattle.field.specs.Field.{byte, word, long};
 ghost use Rattle.printer.specs.Placed.{Placed};
-ghost use Rattle.printer.specs.Lines.{decimal, spaced, images, acceptedLine, refusedLine, bindLine, freshLine, known, fieldLine, answerLines, solverLines, judgeLine, problemLines, cutLine};
+ghost use Rattle.layout.specs.Parts.{partFits};
+ghost use Rattle.printer.specs.Lines.{decimal, spaced, images, acceptedLine, refusedLine, bindLine, freshLine, fieldLine};
+ghost use Rattle.printer.specs.Lines.{answerLines, solverLines, judgeLine, problemLines, cutLine};
 ghost use Rattle.printer.specs.Kinds.{begins, kindOf};
 use field::AtFront;
 use names::Atom;
@@ -109,7 +111,7 @@ fn put_fresh(out: &mut [u8], at: usize, atom: Atom, variable: Variable) -> usize
 }
 
 fn is_known(tag: u8, n: usize) -> bool
-    ensures { λ r. ⌜ r ≡ known tag n ⌝ }
+    ensures { λ r. ⌜ r ≡ partFits tag n ⌝ }
 {
     if tag == 0x4e {
         return n == 4;
@@ -124,7 +126,7 @@ fn is_known(tag: u8, n: usize) -> bool
 }
 
 fn put_field(out: &mut [u8], at: usize, tag: u8, body: &[u8]) -> usize
-    requires { ⌜ known tag (length (now body)) ≡ true ⌝ }
+    requires { ⌜ partFits tag (length (now body)) ≡ true ⌝ }
     ensures { λ r. ⌜ Placed (now (out .entry)) at (fieldLine tag (now (body .entry))) r (now (out .exit)) ⌝ }
 {
     if tag == 0x4e {

@@ -1,10 +1,13 @@
 pub mod Readable
-pub mod Numbers
+pub mod Fields
 pub mod Saying
 pub mod Located
 pub mod Looking
 pub mod Clearing
-pub mod Onward
 pub mod Holding
+pub mod Onward
 pub mod Opened
 pub mod Refusals
+pub mod Given
+pub mod Numbers
+pub mod Counted

@@ -1,19 +1,19 @@
 -- What stands at an offset of the input, read there byte by byte: the laws that the look-ups cite.
-use Prim.Native.Nat.{ℕ, zero, suc, _+_, _*_, _-_, _%_, _≤_, _<_}
+use Prim.Native.Nat.{ℕ, zero, suc, _+_, _*_, _-_, _≤_, _<_}
 use native.Mathlib.Omega.{arith}
 use mathlib.Core.Path.{_≡_, refl, sym, _∙_, ap, subst}
-use mathlib.Core.Bool.{Bool, true, false, _&&_, _||_, cond}
+use mathlib.Core.Bool.{Bool, true, false, cond}
 use mathlib.Core.List.{List, [], _∷_}
-use lib.ListN.{length, getD, take, drop, length-drop, length-take}
+use lib.ListN.{length, take, drop, length-drop}
 use lib.Seq.{getD-take, getD-drop, drop-drop, take-nil}
-use lib.Dec.{eqb, leb}
-use borrow.Author.Tests.{eqb-true, eq-eqb, ne-eqb}
+use lib.Dec.{eqb}
+use borrow.Author.Tests.{eqb-true, ne-eqb}
 use Rattle.sets.proofs.Bits.{by-test}
-use Rattle.permutation.specs.Swaps.{Swaps, swapsIn}
-use Rattle.field.specs.Field.{front, whole, byte, word}
+use Rattle.permutation.specs.Swaps.{swapsIn}
+use Rattle.field.specs.Field.{byte, word}
 use Rattle.field.proofs.Standing.{stands}
 use Rattle.problem.specs.Problem.{Node, unit-form, atom-form, abstraction-form, pair-form, application-form, suspension-form, Equal}
-use Rattle.problem.specs.Reader.{Item, node, equation, freshness, assumption, protection, baseTags, lengthFits, item}
+use Rattle.problem.specs.Reader.{Item, node, equation, freshness, assumption, protection, lengthFits, item}
 use Rattle.problem.specs.Held.{Stands}
 use Rattle.problem.specs.Look.{Suspended}
 
@@ -25,100 +25,92 @@ pub record Located (s : List ℕ) (o tag : ℕ) (body : List ℕ) : Type 0 where
   pub the-bytes : (i : ℕ) → i < length body → byte body i ≡ byte s (o + (3 + i))
   pub the-body : body ≡ take (length body) (drop (o + 3) s)
 
-dropped-few : (s : List ℕ) (o k : ℕ) → 1 ≤ k → k ≤ length (drop o s) → o + k ≤ length s
-dropped-few s o k p h = omega (arith, length-drop o s)
-
 shift : (s : List ℕ) (o i k : ℕ) → o + i ≡ k → byte (drop o s) i ≡ byte s k
 shift s o i k e = rw (← e) (getD-drop o s i 0)
 
-pub located : (s : List ℕ) (o : ℕ) (i : Item) (w : Stands s o i) → Located s o (w .tag) (w .body)
-located s o i w =
-    let h = stands (drop o s) (w .tag) (w .body) (w .rest) (w .stands) in
-    record {
-      the-tag = h .the-tag ∙ shift s o 0 o (omega arith);
-      the-length = h .the-length ∙ (λ i. shift s o 1 (o + 1) refl i * 256 + shift s o 2 (o + 1 + 1) (omega arith) i);
-      inside = dropped-few s o (3 + length (w .body)) (omega arith) (h .fits);
-      the-bytes = λ i k.
-          ap (λ b. byte b i) (h .the-body) ∙ (getD-take (length (w .body)) (drop 3 (drop o s)) i 0 k ∙ (getD-drop 3 (drop o s) i 0 ∙ shift s o (3 + i) (o + (3 + i)) refl));
-      the-body = h .the-body ∙ rw (drop-drop 3 o s);
-    }
+-- ---- any field
 
--- Of a tag with one length only, that length.
-one-length : (tag n k : ℕ) → (eqb n k ≡ false → lengthFits tag n ≡ false) → lengthFits tag n ≡ true → n ≡ k
-one-length tag n k f t = by-test (eqb n k) (eqb-true n k) (λ e. let z : true ≡ false = cc (f e) in let y : _≡_ {A = ℕ} 0 1 = cc in absurd (omega arith))
+module _ {s : List ℕ} {o : ℕ} {i : Item} (w : Stands s o i) where
+  pub located : Located s o (w .tag) (w .body)
+  located =
+      let h = stands (drop o s) (w .tag) (w .body) (w .rest) (w .stands) in
+      record {
+        the-tag = h .the-tag ∙ shift s o 0 o (omega arith);
+        the-length = h .the-length ∙ (λ i. shift s o 1 (o + 1) refl i * 256 + shift s o 2 (o + 1 + 1) (omega arith) i);
+        inside = omega (arith, h .fits, length-drop o s);
+        the-bytes = λ i k.
+            ap (λ b. byte b i) (h .the-body)
+            ∙ (getD-take (length (w .body)) (drop 3 (drop o s)) i 0 k ∙ (getD-drop 3 (drop o s) i 0 ∙ shift s o (3 + i) (o + (3 + i)) refl));
+        the-body = h .the-body ∙ rw (drop-drop 3 o s);
+      }
 
--- Two bytes of the body.
-pub two-at : (s : List ℕ) (o tag : ℕ) (body : List ℕ) (i k : ℕ) → Located s o tag body → i + 2 ≤ length body → o + (3 + i) ≡ k → word body i ≡ word s k
-two-at s o tag body i k l h e =
-    let f : byte body i ≡ byte s k = l .the-bytes i (omega arith) ∙ ap (byte s) e in
-    let g : byte body (i + 1) ≡ byte s (k + 1) = l .the-bytes (i + 1) (omega arith) ∙ ap (byte s) (omega arith) in
-    cc
+  -- One byte of the body, and two.
+  one-at : (i k : ℕ) → i < length (w .body) → o + (3 + i) ≡ k → byte (w .body) i ≡ byte s k
+  one-at i k h e = located .the-bytes i h ∙ ap (byte s) e
 
-pub one-at : (s : List ℕ) (o tag : ℕ) (body : List ℕ) (i k : ℕ) → Located s o tag body → i < length body → o + (3 + i) ≡ k → byte body i ≡ byte s k
-one-at s o tag body i k l h e = l .the-bytes i h ∙ ap (byte s) e
+  two-at : (i k : ℕ) → i + 2 ≤ length (w .body) → o + (3 + i) ≡ k → word (w .body) i ≡ word s k
+  two-at i k h e =
+      let f : byte (w .body) i ≡ byte s k = one-at i k (omega arith) e in
+      let g : byte (w .body) (i + 1) ≡ byte s (k + 1) = one-at (i + 1) (k + 1) (omega arith) (omega arith) in
+      cc
+
+  tagged : (tag : ℕ) → byte s o ≡ tag → w .tag ≡ tag
+  tagged tag e = located .the-tag ∙ e
+
+  said : (tag : ℕ) → byte s o ≡ tag → item tag (w .body) ≡ i
+  said tag e = rw (tagged tag e) at (w .says)
+
+  fitting : (tag : ℕ) → byte s o ≡ tag → lengthFits tag (length (w .body)) ≡ true
+  fitting tag e = rw (tagged tag e) at (w .fits)
+
+  -- Of a tag with one length only, that length.
+  one-length : (tag n : ℕ) → byte s o ≡ tag → (eqb (length (w .body)) n ≡ false → lengthFits tag (length (w .body)) ≡ false) → length (w .body) ≡ n
+  one-length tag n e f =
+      by-test (eqb (length (w .body)) n) (eqb-true (length (w .body)) n)
+      (λ q. let z : true ≡ false = cc (fitting tag e, f q) in let y : _≡_ {A = ℕ} 0 1 = cc in absurd (omega arith))
+
+-- ---- a node by its tag
 
 same-form : {f g : Node} → node f ≡ node g → f ≡ g
 same-form e = cc
 
--- A node by its tag, from the input alone.
-module _ (s : List ℕ) (o : ℕ) (f : Node) (w : Stands s o (node f)) where
-  tagged : (k : ℕ) → byte s o ≡ k → w .tag ≡ k
-  tagged k e = located s o (node f) w .the-tag ∙ e
-
-  said : (k : ℕ) → byte s o ≡ k → item k (w .body) ≡ node f
-  said k e = rw (tagged k e) at (w .says)
-
-  fitting : (k : ℕ) → byte s o ≡ k → lengthFits k (length (w .body)) ≡ true
-  fitting k e = rw (tagged k e) at (w .fits)
-
+module _ {s : List ℕ} {o : ℕ} {f : Node} (w : Stands s o (node f)) where
   pub unit-at : byte s o ≡ 0x10 → f ≡ unit-form
   unfolding item
-  unit-at e = same-form (sym (said 0x10 e))
+  unit-at e = same-form (sym (said w 0x10 e))
 
   pub atom-at : byte s o ≡ 0x11 → (o + 4 ≤ length s) × (f ≡ atom-form (byte s (o + 3)))
   unfolding item lengthFits
   atom-at e =
-      let l = located s o (node f) w in
-      let n : length (w .body) ≡ 1 = one-length 0x11 (length (w .body)) 1 (λ q. rw q) (fitting 0x11 e) in
-      (omega (arith, l .inside), same-form (sym (said 0x11 e)) ∙ ap atom-form (one-at s o (w .tag) (w .body) 0 (o + 3) l (omega arith) (omega arith)))
+      let n = one-length w 0x11 1 e (λ q. rw q) in
+      (omega (arith, located w .inside), same-form (sym (said w 0x11 e)) ∙ ap atom-form (one-at w 0 (o + 3) (omega arith) (omega arith)))
 
   pub abstraction-at : byte s o ≡ 0x12 → (o + 6 ≤ length s) × (f ≡ abstraction-form (byte s (o + 3)) (word s (o + 4)))
   unfolding item lengthFits
   abstraction-at e =
-      let l = located s o (node f) w in
-      let n : length (w .body) ≡ 3 = one-length 0x12 (length (w .body)) 3 (λ q. rw q) (fitting 0x12 e) in
-      let a = one-at s o (w .tag) (w .body) 0 (o + 3) l (omega arith) (omega arith) in
-      let m = two-at s o (w .tag) (w .body) 1 (o + 4) l (omega arith) (omega arith) in
-      (omega (arith, l .inside), same-form (sym (said 0x12 e)) ∙ (λ i. abstraction-form (a i) (m i)))
+      let n = one-length w 0x12 3 e (λ q. rw q) in
+      let a = one-at w 0 (o + 3) (omega arith) (omega arith) in
+      let m = two-at w 1 (o + 4) (omega arith) (omega arith) in
+      (omega (arith, located w .inside), same-form (sym (said w 0x12 e)) ∙ (λ i. abstraction-form (a i) (m i)))
 
   pub pair-at : byte s o ≡ 0x13 → (o + 7 ≤ length s) × (f ≡ pair-form (word s (o + 3)) (word s (o + 5)))
   unfolding item lengthFits
   pair-at e =
-      let l = located s o (node f) w in
-      let n : length (w .body) ≡ 4 = one-length 0x13 (length (w .body)) 4 (λ q. rw q) (fitting 0x13 e) in
-      let a = two-at s o (w .tag) (w .body) 0 (o + 3) l (omega arith) (omega arith) in
-      let m = two-at s o (w .tag) (w .body) 2 (o + 5) l (omega arith) (omega arith) in
-      (omega (arith, l .inside), same-form (sym (said 0x13 e)) ∙ (λ i. pair-form (a i) (m i)))
+      let n = one-length w 0x13 4 e (λ q. rw q) in
+      let l = two-at w 0 (o + 3) (omega arith) (omega arith) in
+      let r = two-at w 2 (o + 5) (omega arith) (omega arith) in
+      (omega (arith, located w .inside), same-form (sym (said w 0x13 e)) ∙ (λ i. pair-form (l i) (r i)))
 
   pub application-at : byte s o ≡ 0x14 → (o + 7 ≤ length s) × (f ≡ application-form (word s (o + 3)) (word s (o + 5)))
   unfolding item lengthFits
   application-at e =
-      let l = located s o (node f) w in
-      let n : length (w .body) ≡ 4 = one-length 0x14 (length (w .body)) 4 (λ q. rw q) (fitting 0x14 e) in
-      let a = two-at s o (w .tag) (w .body) 0 (o + 3) l (omega arith) (omega arith) in
-      let m = two-at s o (w .tag) (w .body) 2 (o + 5) l (omega arith) (omega arith) in
-      (omega (arith, l .inside), same-form (sym (said 0x14 e)) ∙ (λ i. application-form (a i) (m i)))
+      let n = one-length w 0x14 4 e (λ q. rw q) in
+      let g = two-at w 0 (o + 3) (omega arith) (omega arith) in
+      let m = two-at w 2 (o + 5) (omega arith) (omega arith) in
+      (omega (arith, located w .inside), same-form (sym (said w 0x14 e)) ∙ (λ i. application-form (g i) (m i)))
 
-last-kind :
-    (t a b c : Bool) (f g : Node) (e : _) (x y u v X : ℕ)
-    → cond t (node g) (cond a (equation e) (cond b (freshness x y) (cond c (assumption u v) (protection X)))) ≡ node f → t ≡ true
-last-kind true a b c f g e x y u v X h = refl
-last-kind false true b c f g e x y u v X h = let z : _≡_ {A = ℕ} 0 1 = cc in absurd (omega arith)
-last-kind false false true c f g e x y u v X h = let z : _≡_ {A = ℕ} 0 1 = cc in absurd (omega arith)
-last-kind false false false true f g e x y u v X h = let z : _≡_ {A = ℕ} 0 1 = cc in absurd (omega arith)
-last-kind false false false false f g e x y u v X h = let z : _≡_ {A = ℕ} 0 1 = cc in absurd (omega arith)
+-- ---- a suspension: a node whose tag is none of the first five
 
--- A tag that is none of the first five.
 pub record Last (tag : ℕ) : Type 0 where
   pub no-unit : tag ≡ 0x10 → ⊥
   pub no-atom : tag ≡ 0x11 → ⊥
@@ -126,12 +118,24 @@ pub record Last (tag : ℕ) : Type 0 where
   pub no-pair : tag ≡ 0x13 → ⊥
   pub no-application : tag ≡ 0x14 → ⊥
 
+last-kind : (t a b c : Bool) (f g : Node) (e : Equal) (x y u v X : ℕ)
+    → cond t (node g) (cond a (equation e) (cond b (freshness x y) (cond c (assumption u v) (protection X)))) ≡ node f
+    → t ≡ true
+last-kind true a b c f g e x y u v X h = refl
+last-kind false true b c f g e x y u v X h = let z : _≡_ {A = ℕ} 0 1 = cc in absurd (omega arith)
+last-kind false false true c f g e x y u v X h = let z : _≡_ {A = ℕ} 0 1 = cc in absurd (omega arith)
+last-kind false false false true f g e x y u v X h = let z : _≡_ {A = ℕ} 0 1 = cc in absurd (omega arith)
+last-kind false false false false f g e x y u v X h = let z : _≡_ {A = ℕ} 0 1 = cc in absurd (omega arith)
+
 suspension-tag : (tag : ℕ) (body : List ℕ) (f : Node) → Last tag → item tag body ≡ node f → tag ≡ 0x15
 unfolding item
 suspension-tag tag body f l e =
-    eqb-true tag 0x15
-    (last-kind (eqb tag 0x15) (eqb tag 0x20) (eqb tag 0x21) (eqb tag 0x22) f _ _ _ _ _ _ _
-    (rw (ne-eqb tag 0x10 (l .no-unit), ne-eqb tag 0x11 (l .no-atom), ne-eqb tag 0x12 (l .no-abstraction), ne-eqb tag 0x13 (l .no-pair), ne-eqb tag 0x14 (l .no-application)) at e))
+    let u = ne-eqb tag 0x10 (l .no-unit) in
+    let a = ne-eqb tag 0x11 (l .no-atom) in
+    let b = ne-eqb tag 0x12 (l .no-abstraction) in
+    let p = ne-eqb tag 0x13 (l .no-pair) in
+    let g = ne-eqb tag 0x14 (l .no-application) in
+    eqb-true tag 0x15 (last-kind (eqb tag 0x15) (eqb tag 0x20) (eqb tag 0x21) (eqb tag 0x22) f _ _ _ _ _ _ _ (rw (u, a, b, p, g) at e))
 
 odd-length : (n : ℕ) → lengthFits 0x15 n ≡ true → 1 ≤ n
 unfolding lengthFits
@@ -149,25 +153,43 @@ swaps-bytes s o n body e h =
     let f : o + 3 + 1 ≡ o + 4 = omega arith in
     ap (drop 1) e ∙ (behind-first n (drop (o + 3) s) h ∙ ap (take (n - 1)) (drop-drop 1 (o + 3) s ∙ ap (λ k. drop k s) f))
 
-module _ (s : List ℕ) (o : ℕ) (f : Node) (w : Stands s o (node f)) (last : Last (byte s o)) where
-  suspended-here : byte s o ≡ 0x15
-  suspended-here =
-      let l = located s o (node f) w in
-      sym (l .the-tag) ∙ suspension-tag (w .tag) (w .body) f (subst Last (sym (l .the-tag)) last) (w .says)
+module _ {s : List ℕ} {o : ℕ} {f : Node} (w : Stands s o (node f)) where
+  suspended-here : Last (byte s o) → byte s o ≡ 0x15
+  suspended-here last =
+      let e = located w .the-tag in sym e ∙ suspension-tag (w .tag) (w .body) f (subst Last (sym e) last) (w .says)
 
-  pub suspension-at : (o + 4 ≤ length s) × (1 ≤ word s (o + 1)) × (o + (3 + word s (o + 1)) ≤ length s)
+  pub suspension-at : Last (byte s o)
+      → (o + 4 ≤ length s)
+      × (1 ≤ word s (o + 1))
+      × (o + (3 + word s (o + 1)) ≤ length s)
       × (f ≡ suspension-form (swapsIn (take (word s (o + 1) - 1) (drop (o + 4) s))) (byte s (o + 3)))
   unfolding item
-  suspension-at =
-      let l = located s o (node f) w in
-      let k : 1 ≤ length (w .body) = odd-length (length (w .body)) (fitting s o f w 0x15 suspended-here) in
-      let m = l .the-length in
-      let X = one-at s o (w .tag) (w .body) 0 (o + 3) l (omega arith) (omega arith) in
-      let t : drop 1 (w .body) ≡ take (word s (o + 1) - 1) (drop (o + 4) s) =
-      swaps-bytes s o (word s (o + 1)) (w .body) (l .the-body ∙ ap (λ n. take n (drop (o + 3) s)) m) (omega arith) in
-      (omega (arith, l .inside), omega arith, omega (arith, l .inside), same-form (sym (said s o f w 0x15 suspended-here)) ∙ (λ i. suspension-form (swapsIn (t i)) (X i)))
+  suspension-at last =
+      let e = suspended-here last in
+      let k : 1 ≤ length (w .body) = odd-length (length (w .body)) (fitting w 0x15 e) in
+      let m = located w .the-length in
+      let X = one-at w 0 (o + 3) (omega arith) (omega arith) in
+      let b = located w .the-body ∙ ap (λ n. take n (drop (o + 3) s)) m in
+      let π = swaps-bytes s o (word s (o + 1)) (w .body) b (omega arith) in (
+        omega (arith, located w .inside),
+        omega arith,
+        omega (arith, located w .inside),
+        same-form (sym (said w 0x15 e)) ∙ (λ i. suspension-form (swapsIn (π i)) (X i)),
+      )
 
--- What is no node is said behind the six kinds of node.
+  -- A suspension's tag is none of the first five.
+  pub suspended-last : Suspended f → Last (byte s o)
+  suspended-last h =
+      record {
+        no-unit = λ e. subst Suspended (unit-at w e) h;
+        no-atom = λ e. subst Suspended (atom-at w e .1) h;
+        no-abstraction = λ e. subst Suspended (abstraction-at w e .1) h;
+        no-pair = λ e. subst Suspended (pair-at w e .1) h;
+        no-application = λ e. subst Suspended (application-at w e .1) h;
+      }
+
+-- ---- what is no node is said behind the six kinds of node
+
 behind-nodes :
     (a b c d e f : Bool) (n₁ n₂ n₃ n₄ n₅ n₆ : Node) (rest i : Item)
     → cond a (node n₁) (cond b (node n₂) (cond c (node n₃) (cond d (node n₄) (cond e (node n₅) (cond f (node n₆) rest))))) ≡ i
@@ -181,14 +203,17 @@ behind-nodes false false false false true f n₁ n₂ n₃ n₄ n₅ n₆ rest i
 behind-nodes false false false false false true n₁ n₂ n₃ n₄ n₅ n₆ rest i w other = absurd (other n₆ w)
 behind-nodes false false false false false false n₁ n₂ n₃ n₄ n₅ n₆ rest i w other = w
 
-an-equation : (a b c : Bool) (e : Equal) (x : Equal) (y z u v X : ℕ) → cond a (equation x) (cond b (freshness y z) (cond c (assumption u v) (protection X))) ≡ equation e → (a ≡ true) × (x ≡ e)
+an-equation : (a b c : Bool) (e x : Equal) (y z u v X : ℕ)
+    → cond a (equation x) (cond b (freshness y z) (cond c (assumption u v) (protection X))) ≡ equation e
+    → (a ≡ true) × (x ≡ e)
 an-equation true b c e x y z u v X w = (refl, cc)
 an-equation false true c e x y z u v X w = let k : _≡_ {A = ℕ} 0 1 = cc in absurd (omega arith)
 an-equation false false true e x y z u v X w = let k : _≡_ {A = ℕ} 0 1 = cc in absurd (omega arith)
 an-equation false false false e x y z u v X w = let k : _≡_ {A = ℕ} 0 1 = cc in absurd (omega arith)
 
 a-freshness : (a b c : Bool) (p q : ℕ) (x : Equal) (y z u v X : ℕ)
-    → cond a (equation x) (cond b (freshness y z) (cond c (assumption u v) (protection X))) ≡ freshness p q → (b ≡ true) × (y ≡ p) × (z ≡ q)
+    → cond a (equation x) (cond b (freshness y z) (cond c (assumption u v) (protection X))) ≡ freshness p q
+    → (b ≡ true) × (y ≡ p) × (z ≡ q)
 a-freshness true b c p q x y z u v X w = let k : _≡_ {A = ℕ} 0 1 = cc in absurd (omega arith)
 a-freshness false true c p q x y z u v X w = (refl, cc, cc)
 a-freshness false false true p q x y z u v X w = let k : _≡_ {A = ℕ} 0 1 = cc in absurd (omega arith)
@@ -200,37 +225,38 @@ no-node-equation e n w = let k : _≡_ {A = ℕ} 0 1 = cc in omega arith
 no-node-freshness : (a m : ℕ) (n : Node) → node n ≡ freshness a m → ⊥
 no-node-freshness a m n w = let k : _≡_ {A = ℕ} 0 1 = cc in omega arith
 
-pub equation-here : (s : List ℕ) (o : ℕ) (e : Equal) → Stands s o (equation e) → (o + 7 ≤ length s) × (e .left ≡ word s (o + 3)) × (e .right ≡ word s (o + 5))
-unfolding item lengthFits
-equation-here s o e w =
-    let l = located s o (equation e) w in
+-- The item is said behind the nodes.
+abbrev laterItem : ℕ → List ℕ → Item
+laterItem tag s =
+    cond (eqb tag 0x20) (equation (record { left = word s 0; right = word s 2 }))
+    (cond (eqb tag 0x21) (freshness (byte s 0) (word s 1))
+    (cond (eqb tag 0x22) (assumption (byte s 0) (byte s 1))
+    (protection (byte s 0))))
+
+later-item : (tag : ℕ) (s : List ℕ) (i : Item) → item tag s ≡ i → ((n : Node) → node n ≡ i → ⊥) → laterItem tag s ≡ i
+unfolding item
+later-item tag s i =
+    behind-nodes (eqb tag 0x10) (eqb tag 0x11) (eqb tag 0x12) (eqb tag 0x13) (eqb tag 0x14) (eqb tag 0x15) _ _ _ _ _ _ (laterItem tag s) i
+
+pub equation-at : {s : List ℕ} {o : ℕ} {e : Equal} → Stands s o (equation e)
+    → (o + 7 ≤ length s) × (e .left ≡ word s (o + 3)) × (e .right ≡ word s (o + 5))
+unfolding lengthFits
+equation-at {s} {o} {e} w =
     let k = an-equation (eqb (w .tag) 0x20) (eqb (w .tag) 0x21) (eqb (w .tag) 0x22) e _ _ _ _ _ _
-    (behind-nodes (eqb (w .tag) 0x10) (eqb (w .tag) 0x11) (eqb (w .tag) 0x12) (eqb (w .tag) 0x13) (eqb (w .tag) 0x14) (eqb (w .tag) 0x15) _ _ _ _ _ _ _ (equation e) (w .says) (no-node-equation e)) in
-    let n : length (w .body) ≡ 4 = one-length 0x20 (length (w .body)) 4 (λ q. rw q) (rw (eqb-true (w .tag) 0x20 (k .0)) at (w .fits)) in (
-      omega (arith, l .inside),
-      ap (λ (x : Equal). x .left) (sym (k .1)) ∙ two-at s o (w .tag) (w .body) 0 (o + 3) l (omega arith) (omega arith),
-      ap (λ (x : Equal). x .right) (sym (k .1)) ∙ two-at s o (w .tag) (w .body) 2 (o + 5) l (omega arith) (omega arith),
+    (later-item (w .tag) (w .body) (equation e) (w .says) (no-node-equation e)) in
+    let n = one-length w 0x20 4 (sym (located w .the-tag) ∙ eqb-true (w .tag) 0x20 (k .0)) (λ q. rw q) in (
+      omega (arith, located w .inside),
+      ap (λ (x : Equal). x .left) (sym (k .1)) ∙ two-at w 0 (o + 3) (omega arith) (omega arith),
+      ap (λ (x : Equal). x .right) (sym (k .1)) ∙ two-at w 2 (o + 5) (omega arith) (omega arith),
     )
 
-pub freshness-here : (s : List ℕ) (o a m : ℕ) → Stands s o (freshness a m) → (o + 6 ≤ length s) × (a ≡ byte s (o + 3)) × (m ≡ word s (o + 4))
-unfolding item lengthFits
-freshness-here s o a m w =
-    let l = located s o (freshness a m) w in
+pub freshness-at : {s : List ℕ} {o a m : ℕ} → Stands s o (freshness a m) → (o + 6 ≤ length s) × (a ≡ byte s (o + 3)) × (m ≡ word s (o + 4))
+unfolding lengthFits
+freshness-at {s} {o} {a} {m} w =
     let k = a-freshness (eqb (w .tag) 0x20) (eqb (w .tag) 0x21) (eqb (w .tag) 0x22) a m _ _ _ _ _ _
-    (behind-nodes (eqb (w .tag) 0x10) (eqb (w .tag) 0x11) (eqb (w .tag) 0x12) (eqb (w .tag) 0x13) (eqb (w .tag) 0x14) (eqb (w .tag) 0x15) _ _ _ _ _ _ _ (freshness a m) (w .says) (no-node-freshness a m)) in
-    let n : length (w .body) ≡ 3 = one-length 0x21 (length (w .body)) 3 (λ q. rw q) (rw (eqb-true (w .tag) 0x21 (k .0)) at (w .fits)) in (
-      omega (arith, l .inside),
-      sym (k .1) ∙ one-at s o (w .tag) (w .body) 0 (o + 3) l (omega arith) (omega arith),
-      sym (k .2) ∙ two-at s o (w .tag) (w .body) 1 (o + 4) l (omega arith) (omega arith),
+    (later-item (w .tag) (w .body) (freshness a m) (w .says) (no-node-freshness a m)) in
+    let n = one-length w 0x21 3 (sym (located w .the-tag) ∙ eqb-true (w .tag) 0x21 (k .0)) (λ q. rw q) in (
+      omega (arith, located w .inside),
+      sym (k .1) ∙ one-at w 0 (o + 3) (omega arith) (omega arith),
+      sym (k .2) ∙ two-at w 1 (o + 4) (omega arith) (omega arith),
     )
-
--- A suspension's tag is none of the first five.
-pub suspended-last : (s : List ℕ) (o : ℕ) (f : Node) → Stands s o (node f) → Suspended f → Last (byte s o)
-suspended-last s o f w h =
-    record {
-      no-unit = λ e. subst Suspended (unit-at s o f w e) h;
-      no-atom = λ e. subst Suspended (atom-at s o f w e .1) h;
-      no-abstraction = λ e. subst Suspended (abstraction-at s o f w e .1) h;
-      no-pair = λ e. subst Suspended (pair-at s o f w e .1) h;
-      no-application = λ e. subst Suspended (application-at s o f w e .1) h;
-    }

@@ -1,29 +1,28 @@
 -- From the head on: what the input opens with decides what the reader answers and leaves, and the tables that it leaves hold the problem.
-use Prim.Native.Nat.{ℕ, zero, suc, _+_, _-_, _≤_, _<_}
+use Prim.Native.Nat.{ℕ, _+_, _≤_, _<_}
 use native.Mathlib.Omega.{arith}
 use mathlib.Core.Path.{_≡_, refl, sym, _∙_, ap, subst}
 use mathlib.Core.Bool.{Bool, true, false, _&&_, cond}
-use mathlib.Core.List.{List, [], _∷_, _++_}
-use lib.ListN.{length, take, drop, replicate, length-drop}
+use mathlib.Core.List.{List, [], _∷_}
+use lib.ListN.{length, take, drop}
 use lib.Dec.{leb, eqb}
 use borrow.Author.Tests.{leb-true, le-leb, lt-leb, eqb-true}
 use Rattle.field.specs.Field.{Field, cut, whole, front, byte, long, Bytes}
 use Rattle.field.specs.Front.{frontOf}
 use Rattle.field.specs.declared.AtFront.the-variants as front-variants
-use Rattle.field.proofs.Standing.{stands, tail-part, bytes-body}
+use Rattle.field.proofs.Standing.{stands, bytes-body}
 use Rattle.field.proofs.Told.{at-end, at-cut, at-whole}
-use Rattle.problem.specs.Problem.{Problem}
-use Rattle.problem.specs.Reader.{Reading, read, refused, baseTags, goodHead, started, headed, fieldsFrom, headField, readAll, reading}
+use Rattle.problem.specs.Reader.{Reading, unreadable, baseTags, goodHead, started, headed, headField, readAll, reading}
 use Rattle.problem.specs.Readable.{Readable}
-use Rattle.problem.specs.Told.{told, refusal, allIn, countsOf}
-use Rattle.problem.specs.Tables.{Tables, notedFrom, cleared, headNoted, allNoted, left}
-use Rattle.problem.specs.Opening.{headSaid, openedBy, openingOf, ReadAs}
+use Rattle.problem.specs.Told.{told, refusal}
+use Rattle.problem.specs.Tables.{Tables, cleared, headNoted, allNoted, left}
+use Rattle.problem.specs.Opening.{headSaid, openedBy, openingOf, FieldsRead, ReadAs}
+use Rattle.problem.specs.declared.Counts.{Counts}
 use Rattle.problem.specs.declared.Reading as answer
-use Rattle.problem.specs.declared.reader.Opening.{Opening}
 use Rattle.problem.specs.declared.reader.Opening.the-variants.{Good, NoHead, Cut}
-use Rattle.problem.proofs.Readable.{both, chosen, readable, headed-readable}
-use Rattle.problem.proofs.Onward.{Rooms}
-use Rattle.problem.proofs.Holding.{Holds, fields-held, cleared-held, cleared-rooms}
+use Rattle.problem.proofs.Readable.{both, readable, headed-readable, not-read}
+use Rattle.problem.proofs.Fields.{readOn, noteOn}
+use Rattle.problem.proofs.Holding.{cleared-held}
 
 -- What stands at the front tells what the input opens with.
 pub opened-end : (s : List ℕ) → frontOf s ≡ front-variants.End → openingOf s ≡ NoHead
@@ -47,8 +46,8 @@ opened-whole s tag n e =
 pub record GoodHead (s : List ℕ) (atoms variables limit : ℕ) : Type 0 where
   pub nine : 9 ≤ length s
   pub few-variables : variables ≤ 64
-  pub all-read : readAll baseTags s ≡ fieldsFrom baseTags (length (drop 9 s)) (started atoms variables limit) 9 (drop 9 s)
-  pub all-noted : (t : Tables) → allNoted baseTags s t ≡ notedFrom baseTags (length (drop 9 s)) (started atoms variables limit) 9 (drop 9 s) (cleared variables t)
+  pub all-read : readAll baseTags s ≡ readOn baseTags (started atoms variables limit) 9 (drop 9 s)
+  pub all-noted : (t : Tables) → allNoted baseTags s t ≡ noteOn baseTags (started atoms variables limit) 9 (drop 9 s) (cleared variables t)
   pub start-readable : Bytes s → Readable (started atoms variables limit)
 
 head-chosen : (g : Bool) (x y z a v l : ℕ) → cond g (Good x y z) NoHead ≡ Good a v l → (g ≡ true) × (x ≡ a) × (y ≡ v) × (z ≡ l)
@@ -72,15 +71,16 @@ six-bytes tag s e =
 
 -- What the definitions say of the head at the front.
 module _ (b : ℕ) (u : List ℕ) (tag : ℕ) (body rest : List ℕ) (w : front (b ∷ u) ≡ whole tag body rest) where
-  head-read : goodHead tag body ≡ true → readAll baseTags (b ∷ u) ≡ fieldsFrom baseTags (length rest) (headed body) (3 + length body) rest
+  head-read : goodHead tag body ≡ true → readAll baseTags (b ∷ u) ≡ readOn baseTags (headed body) (3 + length body) rest
   unfolding readAll headField
   head-read g = rw (w, g)
 
-  head-noted : goodHead tag body ≡ true → (t : Tables) → allNoted baseTags (b ∷ u) t ≡ notedFrom baseTags (length rest) (headed body) (3 + length body) rest (cleared (byte body 1) t)
+  head-noted : goodHead tag body ≡ true
+      → (t : Tables) → allNoted baseTags (b ∷ u) t ≡ noteOn baseTags (headed body) (3 + length body) rest (cleared (byte body 1) t)
   unfolding allNoted headNoted
   head-noted g t = rw (w, g)
 
-  bad-read : goodHead tag body ≡ false → readAll baseTags (b ∷ u) ≡ refused 2 0
+  bad-read : goodHead tag body ≡ false → readAll baseTags (b ∷ u) ≡ unreadable 2 0
   unfolding readAll headField
   bad-read g = rw (w, g)
 
@@ -109,42 +109,39 @@ good-head (b ∷ u) a v l e = go (front (b ∷ u)) refl e
         record {
           nine = omega (arith, k .fits, x .0);
           few-variables = rw (h .2) at (x .1);
-          all-read = head-read b u tag body rest w (h .0) ∙ (λ i. fieldsFrom baseTags (length (r i)) (p i) (o i) (r i));
-          all-noted = λ t. head-noted b u tag body rest w (h .0) t ∙ (λ i. notedFrom baseTags (length (r i)) (p i) (o i) (r i) (cleared (h .2 i) t));
+          all-read = head-read b u tag body rest w (h .0) ∙ (λ i. readOn baseTags (p i) (o i) (r i));
+          all-noted = λ t. head-noted b u tag body rest w (h .0) t ∙ (λ i. noteOn baseTags (p i) (o i) (r i) (cleared (h .2 i) t));
           start-readable = λ y. subst Readable p (headed-readable tag body (bytes-body (b ∷ u) tag body rest y k) (h .0));
         }
 
-pub no-head : (s : List ℕ) → openingOf s ≡ NoHead → (readAll baseTags s ≡ refused 2 0) × ((t : Tables) → allNoted baseTags s t ≡ t)
+pub no-head : (s : List ℕ) → openingOf s ≡ NoHead → (readAll baseTags s ≡ unreadable 2 0) × ((t : Tables) → allNoted baseTags s t ≡ t)
 unfolding openingOf headSaid readAll allNoted
 no-head [] e = (refl, λ t. refl)
 no-head (b ∷ u) e = go (front (b ∷ u)) refl e
   where
-    go : (f : Field) → front (b ∷ u) ≡ f → openedBy f ≡ NoHead → (readAll baseTags (b ∷ u) ≡ refused 2 0) × ((t : Tables) → allNoted baseTags (b ∷ u) t ≡ t)
+    go : (f : Field) → front (b ∷ u) ≡ f → openedBy f ≡ NoHead → (readAll baseTags (b ∷ u) ≡ unreadable 2 0) × ((t : Tables) → allNoted baseTags (b ∷ u) t ≡ t)
     go cut w e = let q : _≡_ {A = ℕ} 0 1 = cc in absurd (omega arith)
     go (whole tag body rest) w e =
         let g = head-refused (goodHead tag body) (byte body 0) (byte body 1) (long body 2) e in
         (bad-read b u tag body rest w g, bad-noted b u tag body rest w g)
 
-pub cut-head : (s : List ℕ) → openingOf s ≡ Cut → (readAll baseTags s ≡ refused 3 0) × ((t : Tables) → allNoted baseTags s t ≡ t)
+pub cut-head : (s : List ℕ) → openingOf s ≡ Cut → (readAll baseTags s ≡ unreadable 3 0) × ((t : Tables) → allNoted baseTags s t ≡ t)
 unfolding openingOf headSaid readAll allNoted headField headNoted
 cut-head [] e = let q : _≡_ {A = ℕ} 0 1 = cc in absurd (omega arith)
 cut-head (b ∷ u) e = go (front (b ∷ u)) refl e
   where
-    go : (f : Field) → front (b ∷ u) ≡ f → openedBy f ≡ Cut → (readAll baseTags (b ∷ u) ≡ refused 3 0) × ((t : Tables) → allNoted baseTags (b ∷ u) t ≡ t)
+    go : (f : Field) → front (b ∷ u) ≡ f → openedBy f ≡ Cut → (readAll baseTags (b ∷ u) ≡ unreadable 3 0) × ((t : Tables) → allNoted baseTags (b ∷ u) t ≡ t)
     go cut w e = (rw w, λ t. rw w)
     go (whole tag body rest) w e = absurd (head-whole (goodHead tag body) (byte body 0) (byte body 1) (long body 2) e)
 
 -- The reader's contract, way by way.
-never-read : (n o : ℕ) (p : Problem) → refused n o ≡ read p → ⊥
-never-read n o p e = let q : _≡_ {A = ℕ} 0 1 = cc in omega arith
-
-refused-as : (s : List ℕ) (t : Tables) (n o : ℕ) → Bytes s → reading baseTags s ≡ refused n o → left baseTags s t ≡ t → ReadAs s t (refusal n o) t
+refused-as : (s : List ℕ) (t : Tables) (n o : ℕ) → Bytes s → reading baseTags s ≡ unreadable n o → left baseTags s t ≡ t → ReadAs s t (refusal n o) t
 refused-as s t n o b e f =
     record {
       the-answer = sym (ap told e);
       the-tables = sym f;
       is-readable = λ p r. readable baseTags s p b r;
-      is-held = λ p r. absurd (never-read n o p (sym e ∙ r));
+      is-held = λ p r. absurd (not-read n o p (sym e ∙ r));
     }
 
 module _ (s : List ℕ) (t : Tables) (b : Bytes s) where
@@ -169,18 +166,15 @@ module _ (s : List ℕ) (t : Tables) (b : Bytes s) where
     unfolding refusal
     cut-open e = let k = cut-head s e in refused-as s t 3 0 b (whole-reading ∙ k .0) (whole-left ∙ k .1 t)
 
-    pub well-opened : (a v l : ℕ) (u : Tables) (r : answer.Reading) → openingOf s ≡ Good a v l → Rooms t
-        → r ≡ told (fieldsFrom baseTags (length (drop 9 s)) (started a v l) 9 (drop 9 s))
-        → u ≡ notedFrom baseTags (length (drop 9 s)) (started a v l) 9 (drop 9 s) (cleared v t)
-        → ReadAs s t r u
-    well-opened a v l u r e m x y =
-        let g = good-head s a v l e in
+    -- Behind a good head the fields are read, over tables whose sets are cleared.
+    pub well-opened : (head : Counts) (u : Tables) (r : answer.Reading) → openingOf s ≡ Good (head .atoms) (head .variables) (head .limit)
+        → FieldsRead (drop 9 s) head (cleared (head .variables) t) r u → ReadAs s t r u
+    well-opened head u r e f =
+        let g = good-head s (head .atoms) (head .variables) (head .limit) e in
         record {
-          the-answer = x ∙ ap told (sym (whole-reading ∙ g .all-read));
-          the-tables = y ∙ sym (whole-left ∙ g .all-noted t);
+          the-answer = f .the-answer ∙ ap told (sym (whole-reading ∙ g .all-read));
+          the-tables = f .the-tables ∙ sym (whole-left ∙ g .all-noted t);
           is-readable = λ p q. readable baseTags s p b q;
           is-held = λ p q.
-              subst (λ (z : Tables). Holds s z p) (sym y)
-              (fields-held s p (length (drop 9 s)) (started a v l) 9 (drop 9 s) (cleared v t) (g .start-readable b) (cleared-rooms v t (g .few-variables) m) (cleared-held s a v l t) refl
-              (sym (whole-reading ∙ g .all-read) ∙ q));
+              f .is-held s p refl (cleared-held s (head .atoms) (head .variables) (head .limit) t) (sym (whole-reading ∙ g .all-read) ∙ q);
         }

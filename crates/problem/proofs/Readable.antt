@@ -1,20 +1,23 @@
 -- Every problem that is read is within document 01's limits, and every name in it is there.
-use Prim.Native.Nat.{ℕ, zero, suc, _+_, _*_, _≤_, _<_, _^_}
+use Prim.Native.Nat.{ℕ, zero, suc, _+_, _≤_, _<_, _^_}
 use native.Mathlib.Omega.{arith}
 use native.Mathlib.Decide.{ℕ-discrete, decLt}
-use mathlib.Core.Path.{_≡_, refl, sym, _∙_, ap, subst}
-use mathlib.Core.Logic.{_⊎_, inl, inr, ⊎-elim}
+use mathlib.Core.Path.{_≡_, refl, sym, subst}
+use mathlib.Core.Logic.{⊎-elim}
 use mathlib.Core.Bool.{Bool, true, false, not, _&&_, cond}
 use mathlib.Core.List.{List, [], _∷_, _++_, List·Memᴰ, List·Memᴰ·append-cases, List·Memᴰ·eq-of-singleton, List·Memᴰ·not-nil}
-use lib.ListN.{length, getD, take, drop, length-append, List·getD-append, List·getD-eq-default}
-use lib.Seq.{getD-append-seam, getD-append-add, getD-take}
+use lib.ListN.{length, getD, length-append, List·getD-append, List·getD-eq-default}
+use lib.Seq.{getD-append-seam}
 use lib.Dec.{leb, ltb, eqb}
-use borrow.Author.Tests.{ltb-true, leb-true, eqb-true}
+use borrow.Author.Tests.{ltb-true, leb-true}
 use Rattle.permutation.specs.Swaps.{Swaps, Within}
-use Rattle.field.specs.Field.{Field, cut, whole, front, bodied, byte, word, long, Bytes}
+use Rattle.field.specs.Field.{Field, cut, whole, front, byte, long, Bytes}
 use Rattle.field.proofs.Standing.{stands, bytes-body}
-use Rattle.problem.specs.Problem.{Node, unit-form, atom-form, abstraction-form, pair-form, application-form, suspension-form, formAt, Equal, Fresh, Assumed, Problem}
-use Rattle.problem.specs.Reader.{Item, node, equation, freshness, assumption, protection, Reading, read, refused, lengthFits, item, Sizes, sizes, room, there, swapsThere, formThere, add, fault, unless, oneField, fieldsFrom, goodHead, started, headed, headField, readAll, reading}
+use Rattle.problem.specs.Problem.{Node, unit-form, atom-form, abstraction-form, pair-form, application-form, suspension-form}
+use Rattle.problem.specs.Problem.{Fresh, Assumed, Problem}
+use Rattle.problem.specs.Reader.{Item, node, equation, freshness, assumption, protection, Reading, read, unreadable, lengthFits, item, Sizes, sizes}
+use Rattle.problem.specs.Reader.{room, there, swapsThere, formThere, add, fault, unless, oneField, fieldsFrom}
+use Rattle.problem.specs.Reader.{goodHead, started, headed, headField, readAll, reading}
 use Rattle.problem.specs.Readable.{Named, Readable}
 
 -- Both of two tests.
@@ -36,7 +39,7 @@ by-order a b {P} f g h = go (decLt a b) (ℕ-discrete a b)
 pub at-end : {A : Type 0} (d : A) (l : List A) (x : A) (n : ℕ) → n ≡ length l → getD (l ++ (x ∷ [])) n d ≡ x
 at-end d l x n e = rw e (getD-append-seam l x [] d)
 
-pub behind : {A : Type 0} (d : A) (l : List A) (x : A) (n : ℕ) → length l < n → getD (l ++ (x ∷ [])) n d ≡ d
+behind : {A : Type 0} (d : A) (l : List A) (x : A) (n : ℕ) → length l < n → getD (l ++ (x ∷ [])) n d ≡ d
 behind d l x n h = List·getD-eq-default (l ++ (x ∷ [])) d (omega (arith, length-append l (x ∷ [])))
 
 pub one-more : {A : Type 0} (l : List A) (x : A) → length (l ++ (x ∷ [])) ≡ length l + 1
@@ -153,7 +156,11 @@ pub record Faultless (known : ℕ → Bool) (z : Sizes) (tag : ℕ) (s : List �
   pub has-room : room z (item tag s) ≡ true
   pub all-there : there z (item tag s) ≡ true
 
-four-tests : (a b c d : Bool) → _≡_ {A = ℕ} (cond (not a) 4 (cond (not b) 5 (cond (not c) 6 (cond (not d) 7 0)))) 0 → (a ≡ true) × (b ≡ true) × (c ≡ true) × (d ≡ true)
+-- "within a field the order is .. 4, 5, 6, 7": the number of the first of four tests that fails.
+abbrev pub firstFault : (a b c d : Bool) → ℕ
+firstFault a b c d = cond (not a) 4 (cond (not b) 5 (cond (not c) 6 (cond (not d) 7 0)))
+
+four-tests : (a b c d : Bool) → firstFault a b c d ≡ 0 → (a ≡ true) × (b ≡ true) × (c ≡ true) × (d ≡ true)
 four-tests true true true true e = (refl, refl, refl, refl)
 four-tests true true true false e = absurd (omega arith)
 four-tests true true false d e = absurd (omega arith)
@@ -166,16 +173,19 @@ faultless known z tag s e =
     let f = four-tests (known tag) (lengthFits tag (length s)) (room z (item tag s)) (there z (item tag s)) e in
     record { known-tag = f .0; right-length = f .1; has-room = f .2; all-there = f .3 }
 
-pub without-fault : (f o : ℕ) (r : Reading) (p : Problem) → unless f o r ≡ read p → (f ≡ 0) × (r ≡ read p)
+without-fault : (f o : ℕ) (r : Reading) (p : Problem) → unless f o r ≡ read p → (f ≡ 0) × (r ≡ read p)
 without-fault zero o r p e = (refl, e)
 without-fault (suc f) o r p e = let z : _≡_ {A = ℕ} 0 1 = cc in absurd (omega arith)
 
-pub chosen : (b : Bool) (r : Reading) (n o : ℕ) (p : Problem) → cond b r (refused n o) ≡ read p → (b ≡ true) × (r ≡ read p)
+chosen : (b : Bool) (r : Reading) (n o : ℕ) (p : Problem) → cond b r (unreadable n o) ≡ read p → (b ≡ true) × (r ≡ read p)
 chosen true r n o p e = (refl, e)
 chosen false r n o p e = let z : _≡_ {A = ℕ} 0 1 = cc in absurd (omega arith)
 
 pub same-problem : {p q : Problem} → read p ≡ read q → p ≡ q
 same-problem e = cc
+
+pub not-read : (n o : ℕ) (p : Problem) → unreadable n o ≡ read p → ⊥
+not-read n o p e = let z : _≡_ {A = ℕ} 0 1 = cc in omega arith
 
 one-kept : (known : ℕ → Bool) (p q : Problem) (o : ℕ) (onward : Problem → ℕ → List ℕ → Reading) (f : Field)
     → ((p : Problem) (o : ℕ) (s : List ℕ) → Readable p → onward p o s ≡ read q → Readable q)
@@ -186,7 +196,7 @@ one-kept known p q o onward (whole tag s rest) go r e =
     let f = faultless known (sizes p) tag s (u .0) in
     go (add p o (item tag s)) _ rest (kept p o (item tag s) r (f .has-room) (f .all-there)) (u .1)
 
-pub fields-readable : (known : ℕ → Bool) (k : ℕ) (p q : Problem) (o : ℕ) (s : List ℕ) → Readable p → fieldsFrom known k p o s ≡ read q → Readable q
+fields-readable : (known : ℕ → Bool) (k : ℕ) (p q : Problem) (o : ℕ) (s : List ℕ) → Readable p → fieldsFrom known k p o s ≡ read q → Readable q
 unfolding fieldsFrom
 fields-readable known zero p q o s r e = subst Readable (same-problem e) r
 fields-readable known (suc k) p q o [] r e = subst Readable (same-problem e) r
@@ -222,7 +232,8 @@ unfolding headField
 head-readable known s cut p b w e = let z : _≡_ {A = ℕ} 0 1 = cc in absurd (omega arith)
 head-readable known s (whole tag body rest) p b w e =
     let g = chosen (goodHead tag body) _ 2 0 p e in
-    fields-readable known (length rest) (headed body) p _ rest (headed-readable tag body (bytes-body s tag body rest b (stands s tag body rest w)) (g .0)) (g .1)
+    let h = headed-readable tag body (bytes-body s tag body rest b (stands s tag body rest w)) (g .0) in
+    fields-readable known (length rest) (headed body) p _ rest h (g .1)
 
 all-readable : (known : ℕ → Bool) (s : List ℕ) (p : Problem) → Bytes s → readAll known s ≡ read p → Readable p
 unfolding readAll

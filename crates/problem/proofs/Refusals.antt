@@ -2,27 +2,29 @@
 use Prim.Native.Nat.{ℕ, zero, suc, _+_, _-_, _≤_, _<_}
 use native.Mathlib.Omega.{arith}
 use mathlib.Core.Path.{_≡_, refl, sym, _∙_, ap, subst}
-use mathlib.Core.Bool.{Bool, true, false, not, _&&_, _||_, cond}
+use mathlib.Core.Bool.{Bool, true, false, cond}
 use mathlib.Core.List.{List, [], _∷_, _++_}
-use lib.ListN.{length, drop, length-drop}
+use lib.ListN.{length, length-drop}
 use lib.Dec.{leb, eqb}
-use borrow.Author.Tests.{lt-leb, eqb-true, eq-eqb}
+use borrow.Author.Tests.{lt-leb, eqb-true}
 use Rattle.sets.specs.Bits.{among}
 use Rattle.sets.proofs.Bits.{by-test}
 use Rattle.field.specs.Field.{Field, cut, whole, front}
 use Rattle.field.proofs.Standing.{stands}
 use Rattle.problem.specs.Problem.{Assumed, Problem}
-use Rattle.problem.specs.Reader.{Reading, read, refused, item, Sizes, sizes, lengthFits, room, there, add, fault, unless, oneField, fieldsFrom, goodHead, headed, headField, readAll, reading}
+use Rattle.problem.specs.Reader.{Reading, read, unreadable, item, Sizes, sizes, lengthFits, room, there, add, fault, unless, oneField, fieldsFrom}
+use Rattle.problem.specs.Reader.{goodHead, headed, headField, readAll, reading}
 use Rattle.problem.specs.Held.{assumes}
 use Rattle.problem.specs.Told.{refusal, told, numbered}
+use Rattle.problem.proofs.Readable.{firstFault}
 use Rattle.problem.proofs.Holding.{assumes-more, among-more, or-false}
 
 -- "1 comes before all. An empty input is 2."
-pub one-first : (known : ℕ → Bool) (s : List ℕ) → 65535 < length s → reading known s ≡ refused 1 0
+pub one-first : (known : ℕ → Bool) (s : List ℕ) → 65535 < length s → reading known s ≡ unreadable 1 0
 unfolding reading
 one-first known s h = rw (lt-leb (length s) 65535 h)
 
-pub empty-two : (known : ℕ → Bool) → reading known [] ≡ refused 2 0
+pub empty-two : (known : ℕ → Bool) → reading known [] ≡ unreadable 2 0
 unfolding reading readAll
 empty-two known = refl
 
@@ -44,21 +46,17 @@ module _ (known : ℕ → Bool) (z : Sizes) (tag : ℕ) (s : List ℕ) where
   unfolding fault
   seven-last k l r t = rw (k, l, r, t)
 
-  pub none-sound : known tag ≡ true → lengthFits tag (length s) ≡ true → room z (item tag s) ≡ true → there z (item tag s) ≡ true → fault known z tag s ≡ 0
-  unfolding fault
-  none-sound k l r t = rw (k, l, r, t)
-
 -- What each refusal of the code is in document 01's table, and that places lie in the input: a property of every reading within B bytes.
 abbrev pub WellPlaced : ℕ → Reading → Type 0
 WellPlaced most (read p) = Unit {0}
-WellPlaced most (refused n o) = (o ≤ most) × (numbered (refusal n o) ≡ (n, o))
+WellPlaced most (unreadable n o) = (o ≤ most) × (numbered (refusal n o) ≡ (n, o))
 
 either : (most : ℕ) (b : Bool) (r s : Reading) → WellPlaced most r → WellPlaced most s → WellPlaced most (cond b r s)
 either most true r s h k = h
 either most false r s h k = k
 
 fault-placed : (most o : ℕ) (a b c d : Bool) (r : Reading) → o ≤ most → WellPlaced most r
-    → WellPlaced most (unless (cond (not a) 4 (cond (not b) 5 (cond (not c) 6 (cond (not d) 7 0)))) o r)
+    → WellPlaced most (unless (firstFault a b c d) o r)
 unfolding refusal
 fault-placed most o true true true true r h k = k
 fault-placed most o true true true false r h k = (h, refl)
@@ -66,15 +64,17 @@ fault-placed most o true true false d r h k = (h, refl)
 fault-placed most o true false c d r h k = (h, refl)
 fault-placed most o false b c d r h k = (h, refl)
 
-field-placed : (known : ℕ → Bool) (most : ℕ) (p : Problem) (o : ℕ) (onward : Problem → ℕ → List ℕ → Reading) (f : Field) (s : List ℕ) → front s ≡ f → o + length s ≤ most
+field-placed : (known : ℕ → Bool) (most : ℕ) (p : Problem) (o : ℕ) (onward : Problem → ℕ → List ℕ → Reading) (f : Field) (s : List ℕ)
+    → front s ≡ f → o + length s ≤ most
     → ((q : Problem) (i : ℕ) (r : List ℕ) → i + length r ≤ most → WellPlaced most (onward q i r)) → WellPlaced most (oneField known p o onward f)
 unfolding refusal fault
 field-placed known most p o onward cut s w h go = (omega arith, refl)
 field-placed known most p o onward (whole tag body rest) s w h go =
     let k = stands s tag body rest w in
     let l : length rest ≡ length s - (3 + length body) = ap length (k .the-rest) ∙ length-drop (3 + length body) s in
-    fault-placed most o (known tag) (lengthFits tag (length body)) (room (sizes p) (item tag body)) (there (sizes p) (item tag body)) (onward (add p o (item tag body)) (o + (3 + length body)) rest)
-    (omega arith) (go (add p o (item tag body)) (o + (3 + length body)) rest (omega (arith, k .fits)))
+    let i = item tag body in
+    fault-placed most o (known tag) (lengthFits tag (length body)) (room (sizes p) i) (there (sizes p) i) _ (omega arith)
+    (go (add p o i) (o + (3 + length body)) rest (omega (arith, k .fits)))
 
 fields-placed : (known : ℕ → Bool) (most k : ℕ) (p : Problem) (o : ℕ) (s : List ℕ) → o + length s ≤ most → WellPlaced most (fieldsFrom known k p o s)
 unfolding fieldsFrom
@@ -89,7 +89,7 @@ head-placed known cut s w = (omega arith, refl)
 head-placed known (whole tag body rest) s w =
     let k = stands s tag body rest w in
     let l : length rest ≡ length s - (3 + length body) = ap length (k .the-rest) ∙ length-drop (3 + length body) s in
-    either (length s) (goodHead tag body) (fieldsFrom known (length rest) (headed body) (3 + length body) rest) (refused 2 0)
+    either (length s) (goodHead tag body) (fieldsFrom known (length rest) (headed body) (3 + length body) rest) (unreadable 2 0)
     (fields-placed known (length s) (length rest) (headed body) (3 + length body) rest (omega (arith, k .fits))) (omega arith, refl)
 
 all-placed : (known : ℕ → Bool) (s : List ℕ) → WellPlaced (length s) (readAll known s)
@@ -99,14 +99,15 @@ all-placed known (b ∷ s) = head-placed known (front (b ∷ s)) (b ∷ s) refl
 
 pub well-placed : (known : ℕ → Bool) (s : List ℕ) → WellPlaced (length s) (reading known s)
 unfolding reading refusal
-well-placed known s = either (length s) (leb (length s) 65535) (readAll known s) (refused 1 0) (all-placed known s) (omega arith, refl)
+well-placed known s = either (length s) (leb (length s) 65535) (readAll known s) (unreadable 1 0) (all-placed known s) (omega arith, refl)
 
 -- So the code's answer has the number and place that the definition gives.
-pub numbers-right : (known : ℕ → Bool) (s : List ℕ) (n o : ℕ) → reading known s ≡ refused n o → (o ≤ length s) × (numbered (told (reading known s)) ≡ (n, o))
+pub numbers-right : (known : ℕ → Bool) (s : List ℕ) (n o : ℕ) → reading known s ≡ unreadable n o → (o ≤ length s) × (numbered (told (reading known s)) ≡ (n, o))
 numbers-right known s n o e =
-    let h : WellPlaced (length s) (refused n o) = subst (WellPlaced (length s)) e (well-placed known s) in (h .0, rw e (h .1))
+    let h : WellPlaced (length s) (unreadable n o) = subst (WellPlaced (length s)) e (well-placed known s) in (h .0, rw e (h .1))
 
--- "22 and 30 may repeat, which changes nothing": whether an atom is assumed fresh for a variable, and whether a variable is protected, is all that is ever asked.
+-- "22 and 30 may repeat, which changes nothing": whether an atom is assumed fresh for a variable, and whether a variable is protected, is all that is ever
+-- asked.
 pub assumed-again : (ds : List Assumed) (d : Assumed) → assumes ds (d .atom) (d .variable) ≡ true → (a X : ℕ) → assumes (ds ++ (d ∷ [])) a X ≡ assumes ds a X
 assumed-again ds d h a X =
     assumes-more ds d a X

@@ -9,7 +9,7 @@ use lib.Dec.{eqb}
 use Rattle.sets.specs.Bits.{member, among}
 use Rattle.field.specs.Field.{front, whole}
 use Rattle.problem.specs.Problem.{formAt, Equal, Fresh, Assumed, Problem}
-use Rattle.problem.specs.Reader.{Item, node, equation, freshness, Reading, read, refused, reading, baseTags, lengthFits, item}
+use Rattle.problem.specs.Reader.{Item, node, equation, freshness, Reading, read, unreadable, reading, baseTags, lengthFits, item}
 
 -- At offset o of the input stands a whole field, of a known tag and a fitting length, that says the item.
 pub record Stands (s : List ℕ) (o : ℕ) (i : Item) : Type 0 where
@@ -39,7 +39,7 @@ pub record Held (s places equationPlaces freshPlaces assumed : List ℕ) (protec
 -- The problem that the input is, so that contracts can name it: where the reader refuses, the one with nothing in it.
 abbrev pub problemIn : Reading → Problem
 problemIn (read p) = p
-problemIn (refused n o) =
+problemIn (unreadable n o) =
     record { atoms = 0; variables = 0; limit = 0; nodes = []; equations = []; freshness = []; assumptions = []; protected = [] }
 
 unfoldable pub problemOf : List ℕ → Problem

@@ -1,10 +1,11 @@
 -- What the code looks up in the problem that an input is, in the code's own types, and what has to stand in the input and in the tables for it.
 -- Definitions alone.
 use Prim.Native.Nat.{ℕ, _<_}
-use mathlib.Core.List.{List, [], _∷_}
+use mathlib.Core.List.{List, []}
 use lib.ListN.{length, getD}
 use Rattle.permutation.specs.Swaps.{Swaps}
-use Rattle.problem.specs.Problem.{Node, unit-form, atom-form, abstraction-form, pair-form, application-form, suspension-form, formAt, Equal, Fresh, Problem}
+use Rattle.problem.specs.Problem.{Node, unit-form, atom-form, abstraction-form, pair-form, application-form, suspension-form, formAt}
+use Rattle.problem.specs.Problem.{Equal, Fresh}
 use Rattle.problem.specs.Reader.{node, equation, freshness}
 use Rattle.problem.specs.Readable.{Readable}
 use Rattle.problem.specs.Held.{Stands, problemOf}
@@ -29,23 +30,36 @@ equationNow s k = equationAt (problemOf s .equations) k
 abbrev pub freshnessNow : List ℕ → ℕ → Fresh
 freshnessNow s k = freshnessAt (problemOf s .freshness) k
 
--- Its field stands where the table says. `Held` gives it for every number that is there.
-pub record NodeStands (s places : List ℕ) (n : ℕ) : Type 0 where
+-- The table of offsets: a column for nodes, one for equations, one for freshness fields.
+abbrev pub nodePlaces : List (List ℕ) → List ℕ
+nodePlaces places = getD places 0 []
+
+abbrev pub equationPlaces : List (List ℕ) → List ℕ
+equationPlaces places = getD places 1 []
+
+abbrev pub freshPlaces : List (List ℕ) → List ℕ
+freshPlaces places = getD places 2 []
+
+-- A field stands where the table says.
+pub record NodeStands (s : List ℕ) (places : List (List ℕ)) (n : ℕ) : Type 0 where
   pub small : n < 512
-  pub stands : Stands s (getD places n 0) (node (formNow s n))
+  pub stands : Stands s (getD (nodePlaces places) n 0) (node (formNow s n))
 
-pub record EquationStands (s places : List ℕ) (k : ℕ) : Type 0 where
+pub record EquationStands (s : List ℕ) (places : List (List ℕ)) (k : ℕ) : Type 0 where
   pub small : k < 64
-  pub stands : Stands s (getD places k 0) (equation (equationNow s k))
+  pub stands : Stands s (getD (equationPlaces places) k 0) (equation (equationNow s k))
 
-pub record FreshnessStands (s places : List ℕ) (k : ℕ) : Type 0 where
+pub record FreshnessStands (s : List ℕ) (places : List (List ℕ)) (k : ℕ) : Type 0 where
   pub small : k < 64
-  pub stands : Stands s (getD places k 0) (freshness (freshnessNow s k .atom) (freshnessNow s k .node))
+  pub stands : Stands s (getD (freshPlaces places) k 0) (freshness (freshnessNow s k .atom) (freshnessNow s k .node))
 
--- What a way through the nodes leans on: the problem is within the limits with every name there, and each node's field stands where the table says.
-pub record NodesStand (s places : List ℕ) : Type 0 where
+-- The problem that was read stands in the input: it is within the limits with every name there, and each of its fields is where the table says. What
+-- everything after the reader leans on.
+pub record Standing (s : List ℕ) (places : List (List ℕ)) : Type 0 where
   pub readable : Readable (problemOf s)
   pub nodes : (n : ℕ) → n < length (problemOf s .nodes) → NodeStands s places n
+  pub equations : (k : ℕ) → k < length (problemOf s .equations) → EquationStands s places k
+  pub freshness : (k : ℕ) → k < length (problemOf s .freshness) → FreshnessStands s places k
 
 -- A form as the code has it: a suspension's swaps are left in the bytes.
 abbrev pub formTold : Node → Form
@@ -80,10 +94,10 @@ Suspended (pair-form l r) = ⊥
 Suspended (application-form f n) = ⊥
 Suspended (suspension-form π X) = Prim.Unit {0}
 
-abbrev pub swapsOf : Node → Swaps
-swapsOf unit-form = []
-swapsOf (atom-form a) = []
-swapsOf (abstraction-form a n) = []
-swapsOf (pair-form l r) = []
-swapsOf (application-form f n) = []
-swapsOf (suspension-form π X) = π
+abbrev pub ownSwaps : Node → Swaps
+ownSwaps unit-form = []
+ownSwaps (atom-form a) = []
+ownSwaps (abstraction-form a n) = []
+ownSwaps (pair-form l r) = []
+ownSwaps (application-form f n) = []
+ownSwaps (suspension-form π X) = π

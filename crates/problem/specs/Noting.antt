@@ -1,10 +1,12 @@
--- How the code notes what a field says: in its counts, and in the tables that it is lent. Definitions alone.
+-- How the code notes what a field says: what it counts, and what it has to find in the tables for it. Definitions alone.
 use Prim.Native.Nat.{ℕ, _+_, _≤_, _<_}
 use mathlib.Core.Path.{_≡_}
-use lib.ListN.{length, getD, set}
+use lib.ListN.{length}
 use Rattle.sets.specs.Bits.{inserted}
 use Rattle.problem.specs.Problem.{Problem}
 use Rattle.problem.specs.Reader.{started}
+use Rattle.problem.specs.Readable.{Readable}
+use Rattle.problem.specs.Look.{nodePlaces, equationPlaces, freshPlaces}
 use Rattle.problem.specs.Told.{countsOf}
 use Rattle.problem.specs.Tables.{Tables}
 use Rattle.problem.specs.declared.Counts.{Counts}
@@ -20,48 +22,52 @@ faultBy (Assumption a X) = 0
 faultBy (Protection X) = 0
 faultBy (Fault f) = f
 
+-- A problem's numbers with these of its fields, and these variables protected.
+abbrev pub with : Counts → ℕ → ℕ → ℕ → ℕ → Counts
+with c nodes equations freshness protected =
+    record {
+      atoms = c .atoms;
+      variables = c .variables;
+      limit = c .limit;
+      nodes = nodes;
+      equations = equations;
+      freshness = freshness;
+      protected = record { 0 = protected };
+    }
+
+-- What a field says is counted. That the numbers are then those of the problem with the field is a law (proofs/Onward.antt).
 abbrev pub counted : Said → Counts → Counts
-counted Node c =
-    record { atoms = c .atoms; variables = c .variables; limit = c .limit; nodes = c .nodes + 1; equations = c .equations; freshness = c .freshness; protected = c .protected }
-counted Equation c =
-    record { atoms = c .atoms; variables = c .variables; limit = c .limit; nodes = c .nodes; equations = c .equations + 1; freshness = c .freshness; protected = c .protected }
-counted Freshness c =
-    record { atoms = c .atoms; variables = c .variables; limit = c .limit; nodes = c .nodes; equations = c .equations; freshness = c .freshness + 1; protected = c .protected }
+counted Node c = with c (c .nodes + 1) (c .equations) (c .freshness) (c .protected .0)
+counted Equation c = with c (c .nodes) (c .equations + 1) (c .freshness) (c .protected .0)
+counted Freshness c = with c (c .nodes) (c .equations) (c .freshness + 1) (c .protected .0)
 counted (Assumption a X) c = c
-counted (Protection X) c =
-    record { atoms = c .atoms; variables = c .variables; limit = c .limit; nodes = c .nodes; equations = c .equations; freshness = c .freshness; protected = record { 0 = inserted 64 (c .protected .0) (X .0) } }
+counted (Protection X) c = with c (c .nodes) (c .equations) (c .freshness) (inserted 64 (c .protected .0) (X .0))
 counted (Fault f) c = c
 
--- The tables after a field at offset o.
-abbrev pub notedBy : Said → ℕ → Counts → Tables → Tables
-notedBy Node o c t = record { places = set (t .places) (c .nodes) o; equationPlaces = t .equationPlaces; freshPlaces = t .freshPlaces; assumed = t .assumed }
-notedBy Equation o c t = record { places = t .places; equationPlaces = set (t .equationPlaces) (c .equations) o; freshPlaces = t .freshPlaces; assumed = t .assumed }
-notedBy Freshness o c t = record { places = t .places; equationPlaces = t .equationPlaces; freshPlaces = set (t .freshPlaces) (c .freshness) o; assumed = t .assumed }
-notedBy (Assumption a X) o c t =
-    record { places = t .places; equationPlaces = t .equationPlaces; freshPlaces = t .freshPlaces; assumed = set (t .assumed) (X .0) (inserted 32 (getD (t .assumed) (X .0) 0) (a .0)) }
-notedBy (Protection X) o c t = t
-notedBy (Fault f) o c t = t
+-- It is within the limits, as the tests of a field without fault say.
+abbrev pub NotedWithin : Said → Counts → Type 0
+NotedWithin Node c = c .nodes < 512
+NotedWithin Equation c = c .equations < 64
+NotedWithin Freshness c = c .freshness < 64
+NotedWithin (Assumption a X) c = X .0 < 64
+NotedWithin (Protection X) c = Unit {0}
+NotedWithin (Fault f) c = Unit {0}
 
--- There is room for it: what the code needs to note it, which the tests of a field without fault give.
-abbrev pub RoomFor : Said → Counts → Tables → Type 0
-RoomFor Node c t = (c .nodes < 512) × (c .nodes < length (t .places))
-RoomFor Equation c t = (c .equations < 64) × (c .equations < length (t .equationPlaces))
-RoomFor Freshness c t = (c .freshness < 64) × (c .freshness < length (t .freshPlaces))
-RoomFor (Assumption a X) c t = X .0 < length (t .assumed)
-RoomFor (Protection X) c t = Unit {0}
-RoomFor (Fault f) c t = Unit {0}
+-- The tables have a row for it.
+abbrev pub RowFor : Said → Counts → Tables → Type 0
+RowFor Node c t = c .nodes < length (nodePlaces (t .places))
+RowFor Equation c t = c .equations < length (equationPlaces (t .places))
+RowFor Freshness c t = c .freshness < length (freshPlaces (t .places))
+RowFor (Assumption a X) c t = X .0 < length (t .assumed)
+RowFor (Protection X) c t = Unit {0}
+RowFor (Fault f) c t = Unit {0}
 
 -- The problem that has a head and nothing else yet.
 abbrev pub startedBy : Counts → Problem
 startedBy c = started (c .atoms) (c .variables) (c .limit)
 
--- At the start: nothing is counted yet, there are no more variables than there is room for, the tables have the sizes that document 01's limits ask, and
--- behind the head come no more bytes than an input may have.
-pub record Roomy (bytes : ℕ) (head : Counts) (t : Tables) : Type 0 where
+-- At the start: nothing is counted yet, the head is within the limits, and behind it come no more bytes than an input may have.
+pub record Headed (bytes : ℕ) (head : Counts) : Type 0 where
   pub nothing : head ≡ countsOf (startedBy head)
+  pub readable : Readable (startedBy head)
   pub short : 9 + bytes ≤ 65535
-  pub few-variables : head .variables ≤ 64
-  pub node-room : length (t .places) ≡ 512
-  pub equation-room : length (t .equationPlaces) ≡ 64
-  pub fresh-room : length (t .freshPlaces) ≡ 64
-  pub variable-room : length (t .assumed) ≡ 64

@@ -4,7 +4,8 @@ use Prim.Native.Nat.{ℕ, _≤_, _<_, _^_}
 use mathlib.Core.List.{List·Memᴰ}
 use lib.ListN.{length}
 use Rattle.permutation.specs.Swaps.{Within}
-use Rattle.problem.specs.Problem.{Node, unit-form, atom-form, abstraction-form, pair-form, application-form, suspension-form, formAt, Equal, Fresh, Assumed, Problem}
+use Rattle.problem.specs.Problem.{Node, unit-form, atom-form, abstraction-form, pair-form, application-form, suspension-form, formAt}
+use Rattle.problem.specs.Problem.{Equal, Fresh, Assumed, Problem}
 
 -- The names in a form are there: so many atoms and variables, and its parts are below the given node number.
 abbrev pub Named : ℕ → ℕ → ℕ → Node → Type 0

@@ -1,14 +1,15 @@
 -- The reader of document 01, sections "The problem in bytes" and "Numbers given back": every list of bytes is a problem, or a number from 1 to 7
 -- with its place. Definitions alone.
 use Prim.Native.Nat.{ℕ, zero, suc, _+_, _%_}
-use mathlib.Core.Bool.{Bool, true, false, not, _&&_, _||_, cond}
+use mathlib.Core.Bool.{Bool, true, not, _&&_, _||_, cond}
 use mathlib.Core.List.{List, [], _∷_, _++_}
 use lib.ListN.{length, drop}
 use lib.Dec.{eqb, leb, ltb}
 use Rattle.permutation.specs.Swaps as swaps
 use Rattle.permutation.specs.Swaps.{Swaps}
 use Rattle.field.specs.Field.{Field, cut, whole, byte, word, long, front}
-use Rattle.problem.specs.Problem.{Node, unit-form, atom-form, abstraction-form, pair-form, application-form, suspension-form, Equal, Fresh, Assumed, Problem}
+use Rattle.problem.specs.Problem.{Node, unit-form, atom-form, abstraction-form, pair-form, application-form, suspension-form}
+use Rattle.problem.specs.Problem.{Equal, Fresh, Assumed, Problem}
 
 -- What a field after the head says: a node, an equation, a freshness field of an atom and a node, an assumption of an atom and a variable, a
 -- protected variable.
@@ -21,7 +22,7 @@ pub data Item : Type 0 where
 
 pub data Reading : Type 0 where
   read : Problem → Reading
-  refused : ℕ → ℕ → Reading
+  unreadable : ℕ → ℕ → Reading
 
 -- "The head comes first and once": so 01 is no tag that is known after it. Which tags are known is a parameter of the reader.
 unfoldable pub baseTags : ℕ → Bool
@@ -99,18 +100,29 @@ there z (freshness a n) = ltb a (z .atoms) && ltb n (z .nodes)
 there z (assumption a X) = ltb a (z .atoms) && ltb X (z .variables)
 there z (protection X) = ltb X (z .variables)
 
+-- A problem with the same head, and these fields behind it.
+abbrev pub sameHead : Problem → List Node → List Equal → List Fresh → List Assumed → List ℕ → Problem
+sameHead p nodes equations demands assumptions protected =
+    record {
+      atoms = p .atoms;
+      variables = p .variables;
+      limit = p .limit;
+      nodes = nodes;
+      equations = equations;
+      freshness = demands;
+      assumptions = assumptions;
+      protected = protected;
+    }
+
 -- What a field says is set behind what the fields before it said; o is the field's offset.
 unfoldable pub add : Problem → ℕ → Item → Problem
-add p o (node n) =
-    record { atoms = p .atoms; variables = p .variables; limit = p .limit; nodes = p .nodes ++ (n ∷ []); equations = p .equations; freshness = p .freshness; assumptions = p .assumptions; protected = p .protected }
-add p o (equation e) =
-    record { atoms = p .atoms; variables = p .variables; limit = p .limit; nodes = p .nodes; equations = p .equations ++ (e ∷ []); freshness = p .freshness; assumptions = p .assumptions; protected = p .protected }
+add p o (node n) = sameHead p (p .nodes ++ (n ∷ [])) (p .equations) (p .freshness) (p .assumptions) (p .protected)
+add p o (equation e) = sameHead p (p .nodes) (p .equations ++ (e ∷ [])) (p .freshness) (p .assumptions) (p .protected)
 add p o (freshness a n) =
-    record { atoms = p .atoms; variables = p .variables; limit = p .limit; nodes = p .nodes; equations = p .equations; freshness = p .freshness ++ (record { atom = a; node = n; offset = o } ∷ []); assumptions = p .assumptions; protected = p .protected }
+    sameHead p (p .nodes) (p .equations) (p .freshness ++ (record { atom = a; node = n; offset = o } ∷ [])) (p .assumptions) (p .protected)
 add p o (assumption a X) =
-    record { atoms = p .atoms; variables = p .variables; limit = p .limit; nodes = p .nodes; equations = p .equations; freshness = p .freshness; assumptions = p .assumptions ++ (record { atom = a; variable = X; offset = o } ∷ []); protected = p .protected }
-add p o (protection X) =
-    record { atoms = p .atoms; variables = p .variables; limit = p .limit; nodes = p .nodes; equations = p .equations; freshness = p .freshness; assumptions = p .assumptions; protected = p .protected ++ (X ∷ []) }
+    sameHead p (p .nodes) (p .equations) (p .freshness) (p .assumptions ++ (record { atom = a; variable = X; offset = o } ∷ [])) (p .protected)
+add p o (protection X) = sameHead p (p .nodes) (p .equations) (p .freshness) (p .assumptions) (p .protected ++ (X ∷ []))
 
 -- "within a field the order is 3, then 2 (first field only ..), 4, 5, 6, 7": the number that refuses a whole field after the head, or 0.
 unfoldable pub fault : (ℕ → Bool) → Sizes → ℕ → List ℕ → ℕ
@@ -123,11 +135,11 @@ fault known z tag s =
 -- A fault refuses at its field's offset; without one the reading goes on.
 abbrev pub unless : ℕ → ℕ → Reading → Reading
 unless zero o r = r
-unless (suc f) o r = refused (suc f) o
+unless (suc f) o r = unreadable (suc f) o
 
 -- "The first field at fault decides": one field at offset o, and then, by `onward`, the fields after it.
 abbrev pub oneField : (ℕ → Bool) → Problem → ℕ → (Problem → ℕ → List ℕ → Reading) → Field → Reading
-oneField known p o onward cut = refused 3 o
+oneField known p o onward cut = unreadable 3 o
 oneField known p o onward (whole tag s rest) =
     let r : Reading = onward (add p o (item tag s)) (o + (3 + length s)) rest in unless (fault known (sizes p) tag s) o r
 
@@ -144,21 +156,31 @@ goodHead tag s = eqb tag 0x01 && (eqb (length s) 6 && (leb (byte s 0) 32 && leb 
 
 -- "atoms A (0 to 32), variables V (0 to 64), step limit L (4 bytes)".
 unfoldable pub started : ℕ → ℕ → ℕ → Problem
-started atoms variables limit = record { atoms = atoms; variables = variables; limit = limit; nodes = []; equations = []; freshness = []; assumptions = []; protected = [] }
+started atoms variables limit =
+    record {
+      atoms = atoms;
+      variables = variables;
+      limit = limit;
+      nodes = [];
+      equations = [];
+      freshness = [];
+      assumptions = [];
+      protected = [];
+    }
 
 unfoldable pub headed : List ℕ → Problem
 unfolding started
 headed s = started (byte s 0) (byte s 1) (long s 2)
 
 unfoldable pub headField : (ℕ → Bool) → Field → Reading
-headField known cut = refused 3 0
-headField known (whole tag s rest) = let r : Reading = fieldsFrom known (length rest) (headed s) (3 + length s) rest in cond (goodHead tag s) r (refused 2 0)
+headField known cut = unreadable 3 0
+headField known (whole tag s rest) = let r : Reading = fieldsFrom known (length rest) (headed s) (3 + length s) rest in cond (goodHead tag s) r (unreadable 2 0)
 
 -- "An empty input is 2."
 unfoldable pub readAll : (ℕ → Bool) → List ℕ → Reading
-readAll known [] = refused 2 0
+readAll known [] = unreadable 2 0
 readAll known (b ∷ s) = headField known (front (b ∷ s))
 
 -- "1 comes before all."
 unfoldable pub reading : (ℕ → Bool) → List ℕ → Reading
-reading known s = let r : Reading = readAll known s in cond (leb (length s) 65535) r (refused 1 0)
+reading known s = let r : Reading = readAll known s in cond (leb (length s) 65535) r (unreadable 1 0)

@@ -7,29 +7,32 @@ use lib.Dec.{leb}
 use Rattle.sets.specs.Bits.{inserted}
 use Rattle.field.specs.Field.{Field, cut, whole, byte, front}
 use Rattle.problem.specs.Problem.{Problem}
-use Rattle.problem.specs.Reader.{Item, node, equation, freshness, assumption, protection, sizes, item, fault, add, goodHead, headed}
+use Rattle.problem.specs.Reader.{sizes, item, fault, add, goodHead, headed}
+use Rattle.problem.specs.Told.{saidBy, countsOf}
+use Rattle.problem.specs.declared.Counts.{Counts}
+use Rattle.problem.specs.declared.says.Said.{Said}
+use Rattle.problem.specs.declared.says.Said.the-variants.{Node, Equation, Freshness, Assumption, Protection, Fault}
 
--- The offsets of the fields of nodes, equations and freshness fields, and for each variable the set of atoms assumed fresh for it.
+-- The offsets of the fields in three columns, of nodes, of equations and of freshness fields; and for each variable the set of atoms assumed fresh for it.
 pub record Tables : Type 0 where
-  pub places : List ℕ
-  pub equationPlaces : List ℕ
-  pub freshPlaces : List ℕ
+  pub places : List (List ℕ)
   pub assumed : List ℕ
 
-abbrev pub tables : List ℕ → List ℕ → List ℕ → List ℕ → Tables
-tables places equationPlaces freshPlaces assumed = record { places = places; equationPlaces = equationPlaces; freshPlaces = freshPlaces; assumed = assumed }
+abbrev pub tables : List (List ℕ) → List ℕ → Tables
+tables places assumed = record { places = places; assumed = assumed }
 
--- A field without fault is noted: its offset o behind those of its kind, or an atom in the set of a variable.
-unfoldable pub noted : Problem → ℕ → Item → Tables → Tables
-noted p o (node f) t =
-    record { places = set (t .places) (length (p .nodes)) o; equationPlaces = t .equationPlaces; freshPlaces = t .freshPlaces; assumed = t .assumed }
-noted p o (equation e) t =
-    record { places = t .places; equationPlaces = set (t .equationPlaces) (length (p .equations)) o; freshPlaces = t .freshPlaces; assumed = t .assumed }
-noted p o (freshness a n) t =
-    record { places = t .places; equationPlaces = t .equationPlaces; freshPlaces = set (t .freshPlaces) (length (p .freshness)) o; assumed = t .assumed }
-noted p o (assumption a X) t =
-    record { places = t .places; equationPlaces = t .equationPlaces; freshPlaces = t .freshPlaces; assumed = set (t .assumed) X (inserted 32 (getD (t .assumed) X 0) a) }
-noted p o (protection X) t = t
+-- An offset behind the n that stand in a column.
+abbrev pub placed : ℕ → ℕ → ℕ → List (List ℕ) → List (List ℕ)
+placed column n o places = set places column (set (getD places column []) n o)
+
+-- What a field at offset o says is noted behind what was counted so far: its offset behind those of its kind, or an atom in the set of a variable.
+abbrev pub noted : Said → ℕ → Counts → Tables → Tables
+noted Node o c t = tables (placed 0 (c .nodes) o (t .places)) (t .assumed)
+noted Equation o c t = tables (placed 1 (c .equations) o (t .places)) (t .assumed)
+noted Freshness o c t = tables (placed 2 (c .freshness) o (t .places)) (t .assumed)
+noted (Assumption a X) o c t = tables (t .places) (set (t .assumed) (X .0) (inserted 32 (getD (t .assumed) (X .0) 0) (a .0)))
+noted (Protection X) o c t = t
+noted (Fault f) o c t = t
 
 -- A fault leaves the tables as they are.
 abbrev pub stopped : ℕ → Tables → Tables → Tables
@@ -40,7 +43,8 @@ stopped (suc f) t u = t
 abbrev pub oneNoted : (ℕ → Bool) → Problem → ℕ → Tables → (Problem → ℕ → List ℕ → Tables → Tables) → Field → Tables
 oneNoted known p o t onward cut = t
 oneNoted known p o t onward (whole tag s rest) =
-    let u : Tables = onward (add p o (item tag s)) (o + (3 + length s)) rest (noted p o (item tag s) t) in stopped (fault known (sizes p) tag s) t u
+    let u : Tables = onward (add p o (item tag s)) (o + (3 + length s)) rest (noted (saidBy 0 (item tag s)) o (countsOf p) t) in
+    stopped (fault known (sizes p) tag s) t u
 
 unfoldable pub notedFrom : (ℕ → Bool) → ℕ → Problem → ℕ → List ℕ → Tables → Tables
 unfolding sizes
@@ -50,8 +54,7 @@ notedFrom known (suc k) p o (b ∷ s) t = oneNoted known p o t (λ q i r u. note
 
 -- A good head clears the sets of the variables that there are, and no more.
 unfoldable pub cleared : ℕ → Tables → Tables
-cleared variables t =
-    record { places = t .places; equationPlaces = t .equationPlaces; freshPlaces = t .freshPlaces; assumed = replicate variables 0 ++ drop variables (t .assumed) }
+cleared variables t = tables (t .places) (replicate variables 0 ++ drop variables (t .assumed))
 
 unfoldable pub headNoted : (ℕ → Bool) → Tables → Field → Tables
 headNoted known t cut = t

@@ -6,7 +6,7 @@ use lib.ListN.{length}
 use lib.Dec.{eqb, ltb}
 use Rattle.sets.specs.Bits.{inserted}
 use Rattle.problem.specs.Problem.{Problem}
-use Rattle.problem.specs.Reader.{Item, node, equation, freshness, assumption, protection, Sizes, Reading, read, refused, baseTags, item, fault}
+use Rattle.problem.specs.Reader.{Item, node, equation, freshness, assumption, protection, Sizes, Reading, read, unreadable, baseTags, item, fault}
 use Rattle.problem.specs.declared.Counts.{Counts}
 use Rattle.problem.specs.declared.Reading as answer
 use Rattle.problem.specs.declared.Reading.the-variants.{Read, TooLong, NoHead, Cut, UnknownTag, WrongLength, TooMany, NotThere}
@@ -42,7 +42,15 @@ allIn w (X ∷ l) = allIn (inserted 64 w X) l
 -- A problem's numbers: how many there are of each, the step limit, and the protected variables as a set.
 unfoldable pub countsOf : Problem → Counts
 countsOf p =
-    record { atoms = p .atoms; variables = p .variables; limit = p .limit; nodes = length (p .nodes); equations = length (p .equations); freshness = length (p .freshness); protected = record { 0 = allIn 0 (p .protected) } }
+    record {
+      atoms = p .atoms;
+      variables = p .variables;
+      limit = p .limit;
+      nodes = length (p .nodes);
+      equations = length (p .equations);
+      freshness = length (p .freshness);
+      protected = record { 0 = allIn 0 (p .protected) };
+    }
 
 -- The refusal of each number, with its place.
 unfoldable pub refusal : ℕ → ℕ → answer.Reading
@@ -56,7 +64,7 @@ refusal n o =
 
 abbrev pub told : Reading → answer.Reading
 told (read p) = Read (countsOf p)
-told (refused n o) = refusal n o
+told (unreadable n o) = refusal n o
 
 -- "Numbers given back": document 01's number and place for each case of the answer.
 abbrev pub numbered : answer.Reading → ℕ × ℕ

@@ -9,6 +9,16 @@ pub mod look; // look.rt: nodes, equations and freshness fields, from the bytes
 pub mod reader; // reader.rt: the reader of document 01
 pub mod says; // says.rt: what one field says, or which fault it has
 
+// The offsets at which the fields stand: a column for nodes, one for equations, one for freshness fields.
+pub type Places = [[u16; 512]; 3];
+
+pub const EMPTY_PLACES: Places = [[0; 512]; 3];
+
+// By variable the atoms that are assumed fresh for it.
+pub type Assumed = [u32; 64];
+
+pub const EMPTY_ASSUMED: Assumed = [0; 64];
+
 // A node's form. A suspension's swaps stay in the bytes: `look::swaps_of` hands them back as a part of the input.
 pub enum Form {
     Unit,

@@ -1,8 +1,10 @@
 // Nodes, equations and freshness fields of a problem that was read, from the input and the tables of offsets that the reader left.
 ghost use mathlib.Core.Path.{_≡_};
 ghost use Rattle.permutation.specs.Swaps.{swapsIn};
-ghost use Rattle.problem.specs.Look.{NodeStands, EquationStands, FreshnessStands, formNow, equationNow, freshnessNow, formTold, equationTold, freshnessTold, Suspended, swapsOf};
+ghost use Rattle.problem.specs.Look.{NodeStands, formNow, formTold, Suspended, ownSwaps};
+ghost use Rattle.problem.specs.Look.{EquationStands, equationNow, equationTold, FreshnessStands, freshnessNow, freshnessTold};
 use crate::Form;
+use crate::Places;
 use names::Atom;
 use names::NodeId;
 use names::Variable;
@@ -23,12 +25,12 @@ fn wide(x: u16) -> usize
     x as usize
 }
 
-pub fn form_of(s: &[u8], places: &[u16; 512], n: NodeId) -> Form
+pub fn form_of(s: &[u8], places: &Places, n: NodeId) -> Form
     requires { ⌜ NodeStands (now s) (now places) (n .0) ⌝ }
     ensures { λ r. ⌜ r ≡ formTold (formNow (now (s .entry)) (n .0)) ⌝ }
 {
     let i = n.0 as usize;
-    let at = wide(places[i]);
+    let at = wide(places[0][i]);
     let tag = s[at];
     match tag {
         0x10 => Form::Unit,
@@ -41,23 +43,23 @@ pub fn form_of(s: &[u8], places: &[u16; 512], n: NodeId) -> Form
 }
 
 // The swaps of a suspension, two bytes each, as a part of the input.
-pub fn swaps_of<'a>(s: &'a [u8], places: &[u16; 512], n: NodeId) -> &'a [u8]
+pub fn swaps_of<'a>(s: &'a [u8], places: &Places, n: NodeId) -> &'a [u8]
     requires { ⌜ NodeStands (now s) (now places) (n .0) × Suspended (formNow (now s) (n .0)) ⌝ }
-    ensures { λ r. ⌜ swapsIn (now r) ≡ swapsOf (formNow (now (s .entry)) (n .0)) ⌝ }
+    ensures { λ r. ⌜ swapsIn (now r) ≡ ownSwaps (formNow (now (s .entry)) (n .0)) ⌝ }
 {
     let i = n.0 as usize;
-    let at = wide(places[i]);
+    let at = wide(places[0][i]);
     let size = wide(field::two(s, at + 1));
     let start = at + 4;
     let end = at + 3 + size;
     &s[start..end]
 }
 
-pub fn equation_at(s: &[u8], places: &[u16; 64], k: usize) -> Equation
+pub fn equation_at(s: &[u8], places: &Places, k: usize) -> Equation
     requires { ⌜ EquationStands (now s) (now places) k ⌝ }
     ensures { λ r. ⌜ r ≡ equationTold (equationNow (now (s .entry)) k) ⌝ }
 {
-    let at = wide(places[k]);
+    let at = wide(places[1][k]);
     let left = field::two(s, at + 3);
     let right = field::two(s, at + 5);
     Equation {
@@ -66,11 +68,11 @@ pub fn equation_at(s: &[u8], places: &[u16; 64], k: usize) -> Equation
     }
 }
 
-pub fn freshness_at(s: &[u8], places: &[u16; 64], k: usize) -> Freshness
+pub fn freshness_at(s: &[u8], places: &Places, k: usize) -> Freshness
     requires { ⌜ FreshnessStands (now s) (now places) k ⌝ }
     ensures { λ r. ⌜ r ≡ freshnessTold (freshnessNow (now (s .entry)) k) ⌝ }
 {
-    let at = wide(places[k]);
+    let at = wide(places[2][k]);
     let node = field::two(s, at + 4);
     Freshness {
         atom: Atom(s[at + 3]),

@@ -4,12 +4,13 @@ ghost use mathlib.Core.List.{_++_};
 ghost use Prim.Native.Nat.{_≤_, _<_};
 ghost use lib.ListN.{length, getD, set, drop, replicate};
 ghost use Rattle.sets.specs.Bits.{inserted};
-ghost use Rattle.problem.specs.Reader.{baseTags, fieldsFrom};
-ghost use Rattle.problem.specs.Tables.{tables, notedFrom};
-ghost use Rattle.problem.specs.Opening.{headSaid, openingOf, ReadAs};
-ghost use Rattle.problem.specs.Noting.{faultBy, counted, notedBy, RoomFor, Roomy, startedBy};
-ghost use Rattle.problem.specs.Told.{told, refusal};
+ghost use Rattle.problem.specs.Told.{refusal};
+ghost use Rattle.problem.specs.Tables.{tables, noted};
+ghost use Rattle.problem.specs.Noting.{faultBy, counted, NotedWithin, RowFor, Headed};
+ghost use Rattle.problem.specs.Opening.{headSaid, openingOf, FieldsRead, ReadAs};
+use crate::Assumed;
 use crate::Counts;
+use crate::Places;
 use crate::Reading;
 use crate::says::Said;
 use crate::says::Sizes;
@@ -39,7 +40,8 @@ fn refusal_of(fault: u8, at: usize) -> Reading
 
 fn assume(assumed: &mut [u32], a: Atom, x: Variable)
     requires { ⌜ x .0 < length (now assumed) ⌝ }
-    ensures { λ r. ⌜ now (assumed .exit) ≡ set (now (assumed .entry)) (x .0) (inserted 32 (getD (now (assumed .entry)) (x .0) 0) (a .0)) ⌝ }
+    ensures { λ r. ⌜ now (assumed .exit)
+        ≡ set (now (assumed .entry)) (x .0) (inserted 32 (getD (now (assumed .entry)) (x .0) 0) (a .0)) ⌝ }
 {
     let i = x.0 as usize;
     let atoms = AtomSet(assumed[i]).with(a);
@@ -72,31 +74,33 @@ fn fault_of(said: Said) -> u8
     }
 }
 
+// An offset behind the n that stand in a column.
+fn put(column: &mut [u16], n: usize, at: u16)
+    requires { ⌜ n < length (now column) ⌝ }
+    ensures { λ r. ⌜ now (column .exit) ≡ set (now (column .entry)) n at ⌝ }
+{
+    column[n] = at;
+}
+
 // What a field at an offset says is noted in the tables, and counted.
-fn note(
-    said: Said,
-    at: u16,
-    c: Counts,
-    places: &mut [u16],
-    equation_places: &mut [u16],
-    fresh_places: &mut [u16],
-    assumed: &mut [u32],
-) -> Counts
-    requires { ⌜ RoomFor said c (tables (now places) (now «equation_places») (now «fresh_places») (now assumed)) ⌝ }
-    ensures { λ r. ⌜ (r ≡ counted said c) × (tables (now (places .exit)) (now («equation_places» .exit)) (now («fresh_places» .exit)) (now (assumed .exit)) ≡ notedBy said at c (tables (now (places .entry)) (now («equation_places» .entry)) (now («fresh_places» .entry)) (now (assumed .entry)))) ⌝ }
+fn note(said: Said, at: u16, c: Counts, places: &mut Places, assumed: &mut Assumed) -> Counts
+    requires { ⌜ NotedWithin said c ⌝ }
+    ensures { λ r. ⌜ (r ≡ counted said c)
+        × (tables (now (places .exit)) (now (assumed .exit)) ≡ noted said at c (tables (now (places .entry)) (now (assumed .entry))))
+        × RowFor said c (tables (now (places .entry)) (now (assumed .entry))) ⌝ }
 {
     let mut d = c;
     match said {
         Said::Node => {
-            places[c.nodes as usize] = at;
+            put(&mut places[0], c.nodes as usize, at);
             d.nodes = c.nodes + 1;
         }
         Said::Equation => {
-            equation_places[c.equations as usize] = at;
+            put(&mut places[1], c.equations as usize, at);
             d.equations = c.equations + 1;
         }
         Said::Freshness => {
-            fresh_places[c.freshness as usize] = at;
+            put(&mut places[2], c.freshness as usize, at);
             d.freshness = c.freshness + 1;
         }
         Said::Assumption(a, x) => {
@@ -113,16 +117,10 @@ fn note(
 }
 
 // The fields after the head, in an input that is not too long. The slice from each field's end is passed on to the field reader.
-fn fields(
-    input: &[u8],
-    head: Counts,
-    places: &mut [u16],
-    equation_places: &mut [u16],
-    fresh_places: &mut [u16],
-    assumed: &mut [u32],
-) -> Reading
-    requires { ⌜ Roomy (length (now input)) head (tables (now places) (now «equation_places») (now «fresh_places») (now assumed)) ⌝ }
-    ensures { λ r. ⌜ (r ≡ told (fieldsFrom baseTags (length (now (input .entry))) (startedBy head) 9 (now (input .entry)))) × (tables (now (places .exit)) (now («equation_places» .exit)) (now («fresh_places» .exit)) (now (assumed .exit)) ≡ notedFrom baseTags (length (now (input .entry))) (startedBy head) 9 (now (input .entry)) (tables (now (places .entry)) (now («equation_places» .entry)) (now («fresh_places» .entry)) (now (assumed .entry)))) ⌝ }
+fn fields(input: &[u8], head: Counts, places: &mut Places, assumed: &mut Assumed) -> Reading
+    requires { ⌜ Headed (length (now input)) head ⌝ }
+    ensures { λ r. ⌜ FieldsRead (now (input .entry)) head
+        (tables (now (places .entry)) (now (assumed .entry))) r (tables (now (places .exit)) (now (assumed .exit))) ⌝ }
 {
     let mut c = head;
     let mut rest = input;
@@ -153,15 +151,7 @@ fn fields(
                 if fault != 0 {
                     break refusal_of(fault, off);
                 }
-                c = note(
-                    said,
-                    off as u16,
-                    c,
-                    places,
-                    equation_places,
-                    fresh_places,
-                    assumed,
-                );
+                c = note(said, off as u16, c, places, assumed);
                 let end = 3 + n;
                 off = off + end;
                 rest = &rest[end..];
@@ -211,14 +201,9 @@ fn opened(s: &[u8]) -> Opening
 }
 
 // Every byte string, and tables with any content. Only what is in use is written: a short problem pays for a short problem.
-pub fn read(
-    s: &[u8],
-    places: &mut [u16; 512],
-    equation_places: &mut [u16; 64],
-    fresh_places: &mut [u16; 64],
-    assumed: &mut [u32; 64],
-) -> Reading
-    ensures { λ r. ⌜ ReadAs (now (s .entry)) (tables (now (places .entry)) (now («equation_places» .entry)) (now («fresh_places» .entry)) (now (assumed .entry))) r (tables (now (places .exit)) (now («equation_places» .exit)) (now («fresh_places» .exit)) (now (assumed .exit))) ⌝ }
+pub fn read(s: &[u8], places: &mut Places, assumed: &mut Assumed) -> Reading
+    ensures { λ r. ⌜ ReadAs (now (s .entry))
+        (tables (now (places .entry)) (now (assumed .entry))) r (tables (now (places .exit)) (now (assumed .exit))) ⌝ }
 {
     if s.len() > 65535 {
         return Reading::TooLong;
@@ -238,14 +223,7 @@ pub fn read(
                 freshness: 0,
                 protected: VariableSet(0),
             };
-            fields(
-                &s[9..],
-                head,
-                places,
-                equation_places,
-                fresh_places,
-                assumed,
-            )
+            fields(&s[9..], head, places, assumed)
         }
     }
 }

@@ -3,27 +3,27 @@
 use Prim.Native.Nat.{ℕ, _≤_}
 use native.Mathlib.Omega.{arith}
 use mathlib.Core.Path.{_≡_, refl, sym, _∙_, ap, subst}
-use mathlib.Core.Logic.{_≢_, _↔_, _⊎_, inl, inr}
-use mathlib.Core.Bool.{Bool, true, false, cond}
+use mathlib.Core.Logic.{_≢_, _↔_, inl}
+use mathlib.Core.Bool.{Bool, true, false}
 use mathlib.Core.List.{List, [], _∷_, _++_}
 use lib.ListN.{length, drop, length-append, length-drop}
 use lib.Dec.{leb}
-use borrow.Author.Tests.{leb-true, leb-false}
+use borrow.Author.Tests.{leb-true}
 use Rattle.field.specs.Field.{Bytes}
 use Rattle.problem.specs.Problem.{Problem}
-use Rattle.problem.specs.Reader.{Reading, read, refused, reading, baseTags}
+use Rattle.problem.specs.Reader.{Reading, read, unreadable, reading, baseTags}
 use Rattle.problem.proofs.Readable.{readable}
 use Rattle.problem.proofs.Numbers.{OneToSeven, reading-number}
 use Rattle.run.specs.Run.{runOf}
 use Rattle.run.specs.Answer.{Verdict, accepted, refusal, answerBytes, verdictOf, verdictRead, Result, written, given, solve, judgementRead, judge}
 use Rattle.run.proofs.Written.{written-fits}
-use Rattle.solutions.specs.Promises.{Accepts, SameDemands, Agree}
+use Rattle.solutions.specs.Promises.{SameDemands, Agree}
 use Rattle.solutions.proofs.Corollaries.{ProperVerdict, proper, agree, Tells, solve-tells}
 use Rattle.solutions.proofs.Judge.{judge-exactly, judge-holds}
 use Rattle.figure3.proofs.Account.{verdict-is-figure3}
 use Rattle.numbers.specs.declared.Verdict as code
 use Rattle.numbers.specs.declared.Judgement.{Judgement}
-use Rattle.numbers.specs.Verdicts.{numberOf, placeOf, resultOf, judgementOf}
+use Rattle.numbers.specs.Verdicts.{verdictNumber, resultOf, judgementGiven}
 use Rattle.promises.specs.Demands.{First, FirstJudged, Second, SecondJudged, Third, ThirdTwice}
 
 -- ---- what the definition leaves in the output
@@ -64,14 +64,16 @@ refused-read p v h n o e z = let (x, y) = subst (ProperVerdict p) e h in omega a
 refused-any : (input : List ℕ) → Bytes input → (x : Reading) → reading baseTags input ≡ x → OneToSeven x → (n o : ℕ) → verdictRead x ≡ refusal n o → n ≢ 0
 unfolding verdictRead
 refused-any input b (read p) e k n o f z = refused-read p (verdictOf p (runOf p)) (proper p (readable baseTags input p b e)) n o f z
-refused-any input b (refused m q) e k n o f z = let g : m ≡ n = cc in let (x, y) = k in omega arith
+refused-any input b (unreadable m q) e k n o f z = let g : m ≡ n = cc in let (x, y) = k in omega arith
 
 module _ (input output after : List ℕ) (r : code.Verdict) (b : Bytes input) (contract : resultOf r after ≡ solve input output) where
   leaves : Leaves output (resultOf r after)
   unfolding solve
-  leaves = subst (Leaves output) (sym contract) (given-leaves output (verdictRead (reading baseTags input)) (refused-any input b (reading baseTags input) refl (reading-number baseTags input)))
+  leaves =
+      subst (Leaves output) (sym contract)
+      (given-leaves output (verdictRead (reading baseTags input)) (refused-any input b (reading baseTags input) refl (reading-number baseTags input)))
 
-  refused-so : (n o : ℕ) → reading baseTags input ≡ refused n o → resultOf r after ≡ record { number = n; place = o; output = output }
+  refused-so : (n o : ℕ) → reading baseTags input ≡ unreadable n o → resultOf r after ≡ record { number = n; place = o; output = output }
   unfolding solve verdictRead given
   refused-so n o e = contract ∙ rw e refl
 
@@ -92,7 +94,7 @@ module _ (input output after : List ℕ) (r : code.Verdict) (b : Bytes input) (c
   pub third : Third input output r after
   third = record { accepted = λ e. tells .0 (inl e); refused = tells .1 }
 
-module _ (input : List ℕ) (j : Judgement) (b : Bytes input) (contract : judgementOf j ≡ judge input) where
+module _ (input : List ℕ) (j : Judgement) (b : Bytes input) (contract : judgementGiven j ≡ judge input) where
   pub first-judged : FirstJudged input j
   unfolding judge judgementRead
   first-judged = record { bad-input = λ n o e. contract ∙ rw e refl }
@@ -115,14 +117,15 @@ module _ (p q : Problem) (d e : List ℕ) where
   both (refusal i o) (accepted l cs gs) a x y m n s t = absurd (m a)
   both (refusal i o) (refusal j u) a x y m n s t = (λ z. absurd (let (f, g) = x in omega arith), λ z. absurd (let (f, g) = y in omega arith))
 
-module _ (s t d e after later : List ℕ) (r u : code.Verdict) (p q : Problem) (b : Bytes s) (c : Bytes t) (reads : reading baseTags s ≡ read p) (too : reading baseTags t ≡ read q)
+module _ (s t d e after later : List ℕ) (r u : code.Verdict) (p q : Problem) (b : Bytes s) (c : Bytes t) (reads : reading baseTags s ≡ read p)
+    (too : reading baseTags t ≡ read q)
     (contract : resultOf r after ≡ solve s d) (other : resultOf u later ≡ solve t e) (same : SameDemands p q) where
   pub third-twice : ThirdTwice p q r u
   third-twice =
       let x = readable baseTags s p b reads in
       let y = readable baseTags t q c too in
-      let k : numberOf r ≡ given (verdictOf p (runOf p)) d .number = ap (λ (z : Result). z .number) (second s d after r b contract .the-run p reads) in
-      let l : numberOf u ≡ given (verdictOf q (runOf q)) e .number = ap (λ (z : Result). z .number) (second t e later u c other .the-run q too) in
+      let k : verdictNumber r ≡ given (verdictOf p (runOf p)) d .number = ap (λ (z : Result). z .number) (second s d after r b contract .the-run p reads) in
+      let l : verdictNumber u ≡ given (verdictOf q (runOf q)) e .number = ap (λ (z : Result). z .number) (second t e later u c other .the-run q too) in
       record {
         alike = rw (k, l) (both p q d e (verdictOf p (runOf p)) (verdictOf q (runOf q)) (agree p q same x y) (proper p x) (proper q y));
         equally-general = agree p q same x y;

@@ -1,9 +1,8 @@
 -- What the program prints: for every input, with 16,384 bytes of output and four times that of room for the lines, exactly the lines of the
 -- definition's verdict, whole. The numbers of a readable problem's answer fit the fields that carry them.
-use Prim.Native.Nat.{ℕ, _+_, _*_, _^_, _<_, _≤_}
+use Prim.Native.Nat.{ℕ, _*_, _<_, _≤_}
 use native.Mathlib.Omega.{arith}
-use mathlib.Core.Path.{_≡_, refl, sym, _∙_, ap}
-use mathlib.Core.Logic.{_≢_}
+use mathlib.Core.Path.{_≡_, refl, _∙_}
 use mathlib.Core.Option.{Option, none, some}
 use mathlib.Core.List.{List, [], _∷_, _++_}
 use lib.ListN.{length, take}
@@ -11,13 +10,14 @@ use Rattle.field.specs.Field.{Bytes}
 use Rattle.nominal.specs.Solutions.{Every}
 use Rattle.problem.specs.Problem.{Problem}
 use Rattle.problem.specs.Readable.{Readable}
-use Rattle.problem.specs.Reader.{Reading, read, refused, reading, baseTags}
+use Rattle.problem.specs.Reader.{Reading, read, unreadable, reading, baseTags}
 use Rattle.problem.proofs.Readable.{readable}
 use Rattle.problem.proofs.Numbers.{OneToSeven, reading-number}
 use Rattle.run.specs.Meaning.{Binding, meaning, Fact}
 use Rattle.run.specs.Run as run
 use Rattle.run.specs.Run.{Equation, Demand, End, limit, finished, equationsFrom, groundOf, runOf}
-use Rattle.run.specs.Answer.{askedFresh, askedAssumed, askedRaised, resolvedAll, facts, answerBytes, Verdict, accepted, refusal, concluded, verdictOf, verdictRead, given, solve}
+use Rattle.run.specs.Answer.{askedFresh, askedAssumed, askedRaised, resolvedAll, Verdict, accepted, refusal, concluded, verdictOf}
+use Rattle.run.specs.Answer.{verdictRead, solve}
 use Rattle.run.proofs.States.{AtEnd, run-end}
 use Rattle.room.proofs.Reached.{Once, Listed, once-next}
 use Rattle.room.proofs.Room.{once-start}
@@ -54,7 +54,8 @@ module _ (p : Problem) (r : Readable p) where
   end-small (limit n) u = tt
   end-small (run.refused c n) u = tt
   end-small (finished j cs ds) u =
-      concluded-small j cs ds u (resolvedAll (meaning (p .nodes) cs) (askedFresh (p .nodes) (p .freshness) ++ askedAssumed (p .assumptions) ++ askedRaised (p .nodes) ds))
+      concluded-small j cs ds u
+      (resolvedAll (meaning (p .nodes) cs) (askedFresh (p .nodes) (p .freshness) ++ askedAssumed (p .assumptions) ++ askedRaised (p .nodes) ds))
 
   verdict-small : Small (verdictOf p (runOf p))
   unfolding runOf
@@ -74,16 +75,20 @@ module _ (input output : List ℕ) (b : Bytes input) (room : 16384 ≤ length ou
   unfolding verdictRead
   read-printable (read p) e k =
       let r = readable baseTags input p b e in printable p r output room (verdictOf p (runOf p)) refl (verdict-small p r) (proper p r)
-  read-printable (refused n o) e k = λ z. let (x, y) = k in omega arith
+  read-printable (unreadable n o) e k = λ z. let (x, y) = k in omega arith
 
   -- The lines of what the solver gives back are the verdict's.
-  pub lines-of-verdict : solverLines (solve input output .number) (solve input output .place) (solve input output .output) ≡ verdictLines (verdictRead (reading baseTags input))
+  pub lines-of-verdict : solverLines (solve input output .number) (solve input output .place) (solve input output .output)
+      ≡ verdictLines (verdictRead (reading baseTags input))
   unfolding solve
   lines-of-verdict = printed (verdictRead (reading baseTags input)) output (read-printable (reading baseTags input) refl (reading-number baseTags input))
 
   -- So with room for four bytes of lines for each byte of output, what the printer leaves up to the end that it answers is those lines, whole.
-  pub verdict-printed : {d d' : List ℕ} {r : ℕ} → solve input output .number < 256 → solve input output .place < 18446744073709551616 → Bytes (solve input output .output)
+  pub verdict-printed : {d d' : List ℕ} {r : ℕ} → solve input output .number < 256 → solve input output .place < 18446744073709551616
+      → Bytes (solve input output .output)
       → 4 * length (solve input output .output) ≤ length d → 33 ≤ length d
-      → Placed d 0 (solverLines (solve input output .number) (solve input output .place) (solve input output .output)) r d' → take r d' ≡ verdictLines (verdictRead (reading baseTags input))
+      → Placed d 0 (solverLines (solve input output .number) (solve input output .place) (solve input output .output)) r d'
+      → take r d' ≡ verdictLines (verdictRead (reading baseTags input))
   verdict-printed {d} n o c l m p =
-      placed-whole p (omega (arith, solver-length (solve input output .number) (solve input output .place) (solve input output .output) (length d) n o c l m)) ∙ lines-of-verdict
+      placed-whole p (omega (arith, solver-length (solve input output .number) (solve input output .place) (solve input output .output) (length d) n o c l m))
+      ∙ lines-of-verdict

@@ -17,7 +17,8 @@ use Rattle.problem.proofs.Readable.{readable}
 use Rattle.problem.proofs.Numbers.{OneToSeven, reading-number}
 use Rattle.run.specs.Meaning.{Binding, meaning, Fact}
 use Rattle.run.specs.Run.{Equation, Demand, Refusal, clash, inside, protection, End, limit, refused, finished, runOf, equationsFrom, groundOf}
-use Rattle.run.specs.Answer.{Asked, askedFresh, askedAssumed, askedRaised, resolvedAll, Verdict, accepted, refusal, numberOf, concluded, facts, verdictOf, verdictRead, answerBytes, written, given, solve}
+use Rattle.run.specs.Answer.{Asked, askedFresh, askedAssumed, askedRaised, resolvedAll, Verdict, accepted, refusal, refusalNumber, concluded, facts, verdictOf}
+use Rattle.run.specs.Answer.{verdictRead, answerBytes, written, given, solve}
 use Rattle.run.proofs.States.{AtEnd, run-end}
 use Rattle.room.proofs.Bytes.{Narrow, answer-short, facts-few}
 use Rattle.room.proofs.Reached.{Once, Listed, once-next, once-few}
@@ -36,7 +37,8 @@ module _ (p : Problem) (r : Readable p) (k : ℕ) (bs : List Binding) (fs : List
       omega (
         arith,
         answer-short k bs fs
-            (every-map (Listed (groundOf p) (p .variables) (r .named-nodes)) (Narrow 32) (λ b h. omega (arith, h .1 .images .long, r .few-atoms)) bs (o .listed))
+            (every-map (Listed (groundOf p) (p .variables) (r .named-nodes)) (Narrow 32) (λ b h. omega (arith, h .1 .images .long, r .few-atoms)) bs
+            (o .listed))
             (omega (arith, once-few (groundOf p) (p .variables) (r .named-nodes) o, r .few-variables)) f,
       )
 
@@ -73,7 +75,7 @@ concluded-other : (p : Problem) (j : ℕ) (cs : List Binding) (o : Option (List 
 concluded-other p j cs none = omega arith
 concluded-other p j cs (some gs) = tt
 
-numberOf-other : (q : Refusal) → numberOf q ≢ 13
+numberOf-other : (q : Refusal) → refusalNumber q ≢ 13
 numberOf-other clash = omega arith
 numberOf-other inside = omega arith
 numberOf-other protection = omega arith
@@ -84,17 +86,19 @@ verdict-other p (limit n) = omega arith
 verdict-other p (refused q n) = numberOf-other q
 verdict-other p (finished j cs ds) = concluded-other p j cs (resolvedAll (meaning (p .nodes) cs) (asked p ds))
 
-given-other : (output : List ℕ) (v : Verdict) → Other v → ((k : ℕ) (bs : List Binding) (fs : List Fact) → v ≡ accepted k bs fs → length (answerBytes k bs fs) ≤ length output)
+given-other : (output : List ℕ) (v : Verdict) → Other v
+    → ((k : ℕ) (bs : List Binding) (fs : List Fact) → v ≡ accepted k bs fs → length (answerBytes k bs fs) ≤ length output)
     → given v output .number ≢ 13
 unfolding given written
 given-other output (accepted k bs fs) h f = rw (le-leb (length (answerBytes k bs fs)) (length output) (f k bs fs refl)) (omega arith)
 given-other output (refusal n o) h f = h
 
-read-other : (output : List ℕ) → 16384 ≤ length output → (q : Reading) → OneToSeven q → ((p : Problem) → q ≡ read p → Readable p) → given (verdictRead q) output .number ≢ 13
+read-other : (output : List ℕ) → 16384 ≤ length output → (q : Reading) → OneToSeven q → ((p : Problem) → q ≡ read p → Readable p)
+    → given (verdictRead q) output .number ≢ 13
 unfolding verdictRead
 read-other output h (read p) k f =
     given-other output (verdictOf p (runOf p)) (verdict-other p (runOf p)) (λ j bs fs e. let l = answer-room p (f p refl) j bs fs e in omega arith)
-read-other output h (Rattle.problem.specs.Reader.refused n o) k f =
+read-other output h (Rattle.problem.specs.Reader.unreadable n o) k f =
     given-other output (refusal n o) (omega arith) (λ j bs fs e. absurd (let z : _≡_ {A = ℕ} 0 1 = cc in omega arith))
 
 pub never-13 : (input output : List ℕ) → Bytes input → 16384 ≤ length output → solve input output .number ≢ 13

@@ -31,7 +31,8 @@ unfolding factBytes
 length-facts [] = refl
 length-facts (f ∷ fs) = simp (length-append, length-field) (omega (arith, length-facts fs))
 
-pub answer-short : (steps : ℕ) (bs : List Binding) (fs : List Fact) → Every (Narrow 32) bs → length bs ≤ 64 → length fs ≤ 2048 → length (answerBytes steps bs fs) ≤ 12679
+pub answer-short : (steps : ℕ) (bs : List Binding) (fs : List Fact) → Every (Narrow 32) bs → length bs ≤ 64 → length fs ≤ 2048
+    → length (answerBytes steps bs fs) ≤ 12679
 unfolding answerBytes bytes4 bytes2
 answer-short steps bs fs n b f = simp (length-append, length-field) (omega (arith, length-bindings bs n, length-facts fs))
 

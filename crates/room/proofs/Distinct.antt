@@ -8,7 +8,7 @@ use mathlib.Core.List.{List, [], _∷_, List·Memᴰ, List·Memᴰ·head, List·
 use lib.ListN.{length}
 use lib.Dec.{eqb}
 use borrow.Author.Tests.{eq-eqb, ne-eqb}
-use Rattle.permutation.proofs.Swaps.{by-eq}
+use Rattle.names.proofs.Equal.{by-eq}
 
 abbrev pub Distinct : List ℕ → Type 0
 Distinct [] = Unit {0}

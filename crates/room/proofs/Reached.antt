@@ -5,10 +5,11 @@ use native.Mathlib.Omega.{arith}
 use mathlib.Core.Path.{_≡_, refl, sym, _∙_, ap}
 use mathlib.Core.Logic.{_≢_, _⊎_, inl, inr}
 use mathlib.Core.Option.{none}
-use mathlib.Core.List.{List, [], _∷_, _++_, map, append-nil, map-append, List·Memᴰ, List·Memᴰ·head, List·Memᴰ·tail, List·Memᴰ·append-cases, List·Memᴰ·eq-of-singleton}
+use mathlib.Core.List.{List, [], _∷_, _++_, map, append-nil, map-append, List·Memᴰ, List·Memᴰ·head, List·Memᴰ·tail, List·Memᴰ·append-cases}
+use mathlib.Core.List.{List·Memᴰ·eq-of-singleton}
 use lib.ListN.{length, length-map}
 use borrow.Author.Tests.{eq-eqb, ne-eqb}
-use Rattle.permutation.proofs.Swaps.{by-eq}
+use Rattle.names.proofs.Equal.{by-eq}
 use Rattle.nominal.specs.Tree.{Substitution}
 use Rattle.nominal.specs.Solutions.{Every}
 use Rattle.nominal.proofs.Solutions.{every-append}
@@ -26,7 +27,8 @@ use Rattle.room.proofs.Weights.{weigh, weigh-substitute, weigh-side, Re
 use Rattle.room.proofs.Waiting.{Waiting, Waits, waiting-few, waiting-more, did-waits}
 
 -- Bindings that have a meaning have a weighing that respects them.
-meant-respects : {g : Ground} {variables : ℕ} {bs : List Binding} (σ : Substitution) → Meant g variables bs σ → Respects (g .nodes) bs (λ X. weigh (λ Y. 1) (σ X))
+meant-respects : {g : Ground} {variables : ℕ} {bs : List Binding} (σ : Substitution) → Meant g variables bs σ
+    → Respects (g .nodes) bs (λ X. weigh (λ Y. 1) (σ X))
 meant-respects {g} σ m X v e =
     ap (weigh (λ Y. 1)) (m .worth X v e) ∙ weigh-substitute (λ Y. 1) σ (sideTree (g .nodes) v) ∙ weigh-side (g .nodes) (λ Y. weigh (λ Z. 1) (σ Y)) v
 
@@ -52,7 +54,8 @@ distinct-more (y ∷ l) x d n = (λ k i. apart k (List·Memᴰ·append-cases l i
 -- What holds of the start and of each next state holds of every state that is reached.
 module _ {g : Ground} {es₀ : List Equation} {bs₀ : List Binding} {ds₀ : List Demand} (R : List Equation → List Binding → List Demand → Type 1)
     (once : (e : Equation) (es : List Equation) (bs : List Binding) (ds : List Demand) (qs : List (Side × Side)) (b : List (ℕ × Side)) (d : List (ℕ × Subject))
-    → R (e ∷ es) bs ds → step g bs (e .left) (e .right) ≡ goes-on qs b d → R (pending (e .number) qs ++ es) (bs ++ bindings (e .number) b) (ds ++ demands (e .number) d)) where
+    → R (e ∷ es) bs ds → step g bs (e .left) (e .right) ≡ goes-on qs b d
+    → R (pending (e .number) qs ++ es) (bs ++ bindings (e .number) b) (ds ++ demands (e .number) d)) where
   pub reached-all : R es₀ bs₀ ds₀ → {es : List Equation} {bs : List Binding} {ds : List Demand} → Reaches g es₀ bs₀ ds₀ es bs ds → R es bs ds
   reached-all k at-start = k
   reached-all k (after-step {e} {es} {bs} {ds} {qs} {b} {d} r s) = once e es bs ds qs b d (reached-all k r) s
@@ -68,28 +71,35 @@ module _ (g : Ground) (variables : ℕ) (named : (n : ℕ) → Named (g .atoms) 
 
   pub good-few : {m : ℕ} {es : List Equation} {bs : List Binding} {ds : List Demand} → Good m es bs ds → length es ≤ length (g .nodes) + m
   good-few {m} {es} {bs} k =
-      waiting-few (g .nodes) bs m (λ X. weigh (λ Y. 1) (meaning (g .nodes) bs X)) (meant-respects (meaning (g .nodes) bs) (k .state .meant)) es (k .pairs) (k .waits)
+      waiting-few (g .nodes) bs m (λ X. weigh (λ Y. 1) (meaning (g .nodes) bs X)) (meant-respects (meaning (g .nodes) bs) (k .state .meant)) es (k .pairs)
+      (k .waits)
 
   module _ (m : ℕ) (e : Equation) (es : List Equation) (bs : List Binding) (ds : List Demand) where
     step-waits : Good m (e ∷ es) bs ds
-        → Waits g bs m e es (resolved g bs (e .left)) (resolved g bs (e .right)) (λ w r. resolved-weight g variables named bs w r (e .left)) (step g bs (e .left) (e .right))
+        → Waits g bs m e es (resolved g bs (e .left)) (resolved g bs (e .right)) (λ w r. resolved-weight g variables named bs w r (e .left))
+        (step g bs (e .left) (e .right))
     step-waits k =
-        did-waits g bs m e es (resolved g bs (e .left)) (resolved g bs (e .right)) (λ w r. resolved-weight g variables named bs w r (e .left)) (k .pairs) (k .waits)
+        did-waits g bs m e es (resolved g bs (e .left)) (resolved g bs (e .right)) (λ w r. resolved-weight g variables named bs w r (e .left)) (k .pairs)
+        (k .waits)
         (top g (resolved g bs (e .left))) (top g (resolved g bs (e .right))) (top-heavier g variables named (resolved g bs (e .left)))
         (step g bs (e .left) (e .right)) (step-did g bs (e .left) (e .right))
 
-    pub good-next : (qs : List (Side × Side)) (b : List (ℕ × Side)) (d : List (ℕ × Subject)) → Good m (e ∷ es) bs ds → step g bs (e .left) (e .right) ≡ goes-on qs b d
+    pub good-next : (qs : List (Side × Side)) (b : List (ℕ × Side)) (d : List (ℕ × Subject)) → Good m (e ∷ es) bs ds
+        → step g bs (e .left) (e .right) ≡ goes-on qs b d
         → Good m (pending (e .number) qs ++ es) (bs ++ bindings (e .number) b) (ds ++ demands (e .number) d)
     good-next qs b d k s =
         let (cs, w) = rw s at (step-waits k) in record {
           state = state-next g variables named e es bs ds qs b d (k .state) s;
           pairs = cs;
-          waits = waiting-more (g .nodes) m bs (bs ++ bindings (e .number) b) (λ X v. valueOf-kept bs (bindings (e .number) b) X v) (pending (e .number) qs ++ es) cs w;
+          waits =
+              waiting-more (g .nodes) m bs (bs ++ bindings (e .number) b) (λ X v. valueOf-kept bs (bindings (e .number) b) X v) (pending (e .number) qs ++ es)
+              cs w;
         }
 
   -- "within the limits a chain of parts never meets the same compound node twice": from any start no stack holds over as many equations as there are
   -- nodes, and those of the start.
-  pub reached-few : {es₀ es : List Equation} {bs₀ bs : List Binding} {ds₀ ds : List Demand} → State g variables named es₀ bs₀ ds₀ → Reaches g es₀ bs₀ ds₀ es bs ds
+  pub reached-few : {es₀ es : List Equation} {bs₀ bs : List Binding} {ds₀ ds : List Demand} → State g variables named es₀ bs₀ ds₀
+      → Reaches g es₀ bs₀ ds₀ es bs ds
       → length es ≤ length (g .nodes) + length es₀
   reached-few {es₀} k r = good-few (reached-all (Good (length es₀)) (good-next (length es₀)) (record { state = k; pairs = []; waits = omega arith }) r)
 
@@ -114,8 +124,10 @@ module _ (g : Ground) (variables : ℕ) (named : (n : ℕ) → Named (g .atoms) 
   )
   once-more n bs (c ∷ e ∷ b) k d l = absurd k
 
-  pub once-next : (e : Equation) (es : List Equation) (bs : List Binding) (ds : List Demand) (qs : List (Side × Side)) (b : List (ℕ × Side)) (d : List (ℕ × Subject))
-      → Once (e ∷ es) bs ds → step g bs (e .left) (e .right) ≡ goes-on qs b d → Once (pending (e .number) qs ++ es) (bs ++ bindings (e .number) b) (ds ++ demands (e .number) d)
+  pub once-next : (e : Equation) (es : List Equation) (bs : List Binding) (ds : List Demand) (qs : List (Side × Side)) (b : List (ℕ × Side))
+      (d : List (ℕ × Subject))
+      → Once (e ∷ es) bs ds → step g bs (e .left) (e .right) ≡ goes-on qs b d
+      → Once (pending (e .number) qs ++ es) (bs ++ bindings (e .number) b) (ds ++ demands (e .number) d)
   once-next e es bs ds qs b d k s =
       let kept : Keeps g variables named bs (goes-on qs b d) =
       rw s at (step-keeps g variables named (k .state .meant) (e .left) (e .right) (k .state .waiting .0 .0) (k .state .waiting .0 .1)) in

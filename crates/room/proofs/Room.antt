@@ -14,10 +14,11 @@ use Rattle.run.specs.Meaning.{Side, Binding}
 use Rattle.run.specs.Run.{Equation, Demand, Ground, Subject, Step, refuses, goes-on, step, pending, bindings, demands, next, run, equationsFrom, groundOf}
 use Rattle.run.proofs.States.{groundWith, start}
 use Rattle.room.specs.Stacks.{onwards, stacks, Reaches, at-start, after-step}
-use Rattle.room.proofs.Reached.{Once, reached-all, reached-few, once-next, once-few}
+use Rattle.room.proofs.Reached.{Once, reached-few}
 
 -- What is reached lies on the run's own way: after so many steps, whatever the limit, the run goes on from there.
-run-onward : (g : Ground) (k : ℕ) (e : Equation) (es : List Equation) (bs : List Binding) (ds : List Demand) (qs : List (Side × Side)) (b : List (ℕ × Side)) (d : List (ℕ × Subject))
+run-onward : (g : Ground) (k : ℕ) (e : Equation) (es : List Equation) (bs : List Binding) (ds : List Demand) (qs : List (Side × Side)) (b : List (ℕ × Side))
+    (d : List (ℕ × Subject))
     → step g bs (e .left) (e .right) ≡ goes-on qs b d
     → run g (suc k) (e ∷ es) bs ds ≡ run g k (pending (e .number) qs ++ es) (bs ++ bindings (e .number) b) (ds ++ demands (e .number) d)
 unfolding run
@@ -45,8 +46,11 @@ module _ (g : Ground) (es₀ : List Equation) (bs₀ : List Binding) (ds₀ : Li
   unfolding stacks
   stacks-all zero es bs ds r = (all es bs ds r, tt)
   stacks-all (suc k) [] bs ds r = (all [] bs ds r, tt)
-  stacks-all (suc k) (e ∷ es) bs ds r =
-      (all (e ∷ es) bs ds r, onwards-all e es bs ds r (λ es′ bs′. stacks g k es′ bs′) (λ es′ bs′ ds′. stacks-all k es′ bs′ ds′) (step g bs (e .left) (e .right)) refl)
+  stacks-all (suc k) (e ∷ es) bs ds r = (
+    all (e ∷ es) bs ds r,
+    onwards-all e es bs ds r (λ es′ bs′. stacks g k es′ bs′) (λ es′ bs′ ds′. stacks-all k es′ bs′ ds′)
+        (step g bs (e .left) (e .right)) refl,
+  )
 
 length-equations : (atoms i : ℕ) (es : List Equal) → length (equationsFrom atoms i es) ≡ length es
 length-equations atoms i [] = refl
@@ -70,11 +74,6 @@ module _ (p : Problem) (r : Readable p) (isProtected : ℕ → Bool) where
   pub once-start : Once (groundWith p isProtected) (p .variables) (r .named-nodes) (equationsFrom (p .atoms) 0 (p .equations)) [] []
   once-start = record { state = start p r isProtected; distinct = tt; listed = tt }
 
-  pub reaches-bindings : (es : List Equation) (bs : List Binding) (ds : List Demand) → Reached es bs ds → length bs ≤ p .variables
-  reaches-bindings es bs ds q =
-      once-few (groundWith p isProtected) (p .variables) (r .named-nodes)
-      (reached-all (Once (groundWith p isProtected) (p .variables) (r .named-nodes)) (once-next (groundWith p isProtected) (p .variables) (r .named-nodes)) once-start q)
-
   -- No stack of a run of at most k steps, for every k, holds over 576 equations.
   pub stacks-room : (k : ℕ) → Every (λ es. length es ≤ 576) (stacks (groundWith p isProtected) k (equationsFrom (p .atoms) 0 (p .equations)) [])
   stacks-room k =
@@ -86,5 +85,6 @@ pub solver-room : (p : Problem) → Readable p → (k : ℕ) → Every (λ es. l
 solver-room p r k = stacks-room p r (groundOf p .protected) k
 
 pub judge-room : (p : Problem) → Readable p → (k : ℕ)
-    → Every (λ es. length es ≤ 576) (stacks (record { atoms = p .atoms; nodes = p .nodes; protected = λ X. true }) k (equationsFrom (p .atoms) 0 (p .equations)) [])
+    → Every (λ es. length es ≤ 576)
+    (stacks (record { atoms = p .atoms; nodes = p .nodes; protected = λ X. true }) k (equationsFrom (p .atoms) 0 (p .equations)) [])
 judge-room p r k = stacks-room p r (λ X. true) k

@@ -10,7 +10,8 @@ use Rattle.permutation.specs.Table.{Table}
 use Rattle.problem.specs.Problem.{Form, Node}
 use Rattle.run.specs.Meaning.{Side, Binding}
 use Rattle.run.specs.Run.{Ground, Equation, valueOf, Step, refuses, goes-on, pending}
-use Rattle.run.proofs.Did.{Did, two-units, same-atoms, same-abstractions, other-abstractions, two-pairs, same-symbols, one-variable, left-bound, right-bound, left-inside, right-inside, left-protected, right-protected, both-protected, different-forms, different-atoms, different-symbols}
+use Rattle.run.proofs.Did.{Did, two-units, same-atoms, same-abstractions, other-abstractions, two-pairs, same-symbols, one-variable, left-bound, right-bound}
+use Rattle.run.proofs.Did.{left-inside, right-inside, left-protected, right-protected, both-protected, different-forms, different-atoms, different-symbols}
 use Rattle.room.proofs.Distinct.{Distinct, distinct-few}
 use Rattle.room.proofs.Weights.{weight, Respects, Lower, Heavier}
 
@@ -42,7 +43,8 @@ module _ (nodes : List Node) (bs : List Binding) (m : ℕ) where
 
   module _ (w : ℕ → ℕ) (respects : Respects nodes bs w) where
     -- A node that is lighter than the first is lighter than all.
-    lighter : (n : ℕ) (es : List Equation) (cs : List ℕ) → Waiting nodes bs m es cs → Under nodes bs n cs → (c : ℕ) → List·Memᴰ c cs → weight nodes w n < weight nodes w c
+    lighter : (n : ℕ) (es : List Equation) (cs : List ℕ) → Waiting nodes bs m es cs → Under nodes bs n cs → (c : ℕ) → List·Memᴰ c cs
+        → weight nodes w n < weight nodes w c
     lighter n [] (d ∷ cs) k u c i = absurd k
     lighter n (e ∷ es) (d ∷ cs) k u c (List·Memᴰ·head p) = rw p (u w respects)
     lighter n (e ∷ es) (d ∷ cs) k u c (List·Memᴰ·tail i) = let a = u w respects in let b = lighter d es cs (k .3) (k .2) c i in omega arith
@@ -50,7 +52,8 @@ module _ (nodes : List Node) (bs : List Binding) (m : ℕ) where
     waiting-distinct : (es : List Equation) (cs : List ℕ) → Waiting nodes bs m es cs → Distinct cs
     waiting-distinct es [] k = tt
     waiting-distinct [] (c ∷ cs) k = absurd k
-    waiting-distinct (e ∷ es) (c ∷ cs) k = (λ d i p. let l = lighter c es cs (k .3) (k .2) d i in omega (arith, ap (weight nodes w) p), waiting-distinct es cs (k .3))
+    waiting-distinct (e ∷ es) (c ∷ cs) k =
+        (λ d i p. let l = lighter c es cs (k .3) (k .2) d i in omega (arith, ap (weight nodes w) p), waiting-distinct es cs (k .3))
 
     pub waiting-few : (es : List Equation) (cs : List ℕ) → Waiting nodes bs m es cs → length es ≤ length nodes + m
     waiting-few es cs k =
@@ -84,13 +87,15 @@ module _ (g : Ground) (bs : List Binding) (m : ℕ) (e : Equation) (es : List Eq
   taken [] k = ([], omega arith)
   taken (c ∷ cs) k = (cs, k .3)
 
-  one-part : (cs : List ℕ) → Waiting (g .nodes) bs m (e ∷ es) cs → (n : ℕ) (u v : Side) → ((w : ℕ → ℕ) → weight (g .nodes) w (u .node) < weight (g .nodes) w (s .node))
+  one-part : (cs : List ℕ) → Waiting (g .nodes) bs m (e ∷ es) cs → (n : ℕ) (u v : Side)
+      → ((w : ℕ → ℕ) → weight (g .nodes) w (u .node) < weight (g .nodes) w (s .node))
       → (ds : List ℕ) × Waiting (g .nodes) bs m (record { number = n; left = u; right = v } ∷ es) ds
   one-part [] k n u v l = ([], k)
   one-part (c ∷ cs) k n u v l = (c ∷ cs, (λ w r. let a = l w in let b = level w r in let d = k .0 w r in omega arith, k .1, k .2, k .3))
 
   two-parts : (cs : List ℕ) → Waiting (g .nodes) bs m (e ∷ es) cs → (n : ℕ) (u v x y : Side) → s .node < length (g .nodes)
-      → ((w : ℕ → ℕ) → weight (g .nodes) w (u .node) < weight (g .nodes) w (s .node)) → ((w : ℕ → ℕ) → weight (g .nodes) w (x .node) < weight (g .nodes) w (s .node))
+      → ((w : ℕ → ℕ) → weight (g .nodes) w (u .node) < weight (g .nodes) w (s .node))
+      → ((w : ℕ → ℕ) → weight (g .nodes) w (x .node) < weight (g .nodes) w (s .node))
       → (ds : List ℕ) × Waiting (g .nodes) bs m (record { number = n; left = u; right = v } ∷ record { number = n; left = x; right = y } ∷ es) ds
   two-parts [] k n u v x y h l q = (s .node ∷ [], (λ w r. l w, h, tt, k))
   two-parts (c ∷ cs) k n u v x y h l q = (
@@ -103,7 +108,8 @@ module _ (g : Ground) (bs : List Binding) (m : ℕ) (e : Equation) (es : List Eq
     ),
   )
 
-  pub did-waits : (cs : List ℕ) → Waiting (g .nodes) bs m (e ∷ es) cs → (v w : Form Table Side) → Heavier (g .nodes) (s .node) v → (x : Step) → Did g bs s t v w x → Waits x
+  pub did-waits : (cs : List ℕ) → Waiting (g .nodes) bs m (e ∷ es) cs → (v w : Form Table Side) → Heavier (g .nodes) (s .node) v → (x : Step)
+      → Did g bs s t v w x → Waits x
   did-waits cs k v w h x two-units = taken cs k
   did-waits cs k v w h x same-atoms = taken cs k
   did-waits cs k v w h x same-abstractions = one-part cs k (e .number) _ _ h

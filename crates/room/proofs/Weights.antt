@@ -61,7 +61,8 @@ abbrev pub Heavier : List Node → ℕ → Form Table Side → Type 0
 Heavier nodes n unit-form = Unit {0}
 Heavier nodes n (atom-form a) = Unit {0}
 Heavier nodes n (abstraction-form a s) = (w : ℕ → ℕ) → weight nodes w (s .node) < weight nodes w n
-Heavier nodes n (pair-form l r) = (n < length nodes) × ((w : ℕ → ℕ) → weight nodes w (l .node) < weight nodes w n) × ((w : ℕ → ℕ) → weight nodes w (r .node) < weight nodes w n)
+Heavier nodes n (pair-form l r) =
+    (n < length nodes) × ((w : ℕ → ℕ) → weight nodes w (l .node) < weight nodes w n) × ((w : ℕ → ℕ) → weight nodes w (r .node) < weight nodes w n)
 Heavier nodes n (application-form f s) = (w : ℕ → ℕ) → weight nodes w (s .node) < weight nodes w n
 Heavier nodes n (suspension-form P X) = (w : ℕ → ℕ) → weight nodes w n ≡ w X
 

@@ -20,6 +20,7 @@ stacks g (suc k) (e ∷ es) bs = (e ∷ es) ∷ onwards (λ es′ bs′. stacks 
 -- the demands raised.
 pub data Reaches (g : Ground) (es₀ : List Equation) (bs₀ : List Binding) (ds₀ : List Demand) : List Equation → List Binding → List Demand → Type 0 where
   at-start : Reaches g es₀ bs₀ ds₀ es₀ bs₀ ds₀
-  after-step : {e : Equation} {es : List Equation} {bs : List Binding} {ds : List Demand} {qs : List (Side × Side)} {b : List (ℕ × Side)} {d : List (ℕ × Subject)}
+  after-step : {e : Equation} {es : List Equation} {bs : List Binding} {ds : List Demand} {qs : List (Side × Side)} {b : List (ℕ × Side)}
+      {d : List (ℕ × Subject)}
       → Reaches g es₀ bs₀ ds₀ (e ∷ es) bs ds → step g bs (e .left) (e .right) ≡ goes-on qs b d
       → Reaches g es₀ bs₀ ds₀ (pending (e .number) qs ++ es) (bs ++ bindings (e .number) b) (ds ++ demands (e .number) d)

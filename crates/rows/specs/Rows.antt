@@ -1,14 +1,18 @@
--- Permutations in a table of rows of 32 bytes. A row has room for the images of 32 atoms; of A atoms in use the first A bytes count. Definitions
--- alone; their laws are in proofs/.
-use Prim.Native.Nat.{ℕ, _+_, _*_}
-use mathlib.Core.List.{List, _++_}
-use lib.ListN.{length, take, drop}
+-- A permutation as it lies in a lent table. The definitions above speak of a row through these three alone, so that the store can change behind them
+-- (document 02, E9). Definitions alone; their laws are in proofs/.
+use Prim.Native.Nat.{ℕ}
+use mathlib.Core.List.{List}
+use lib.ListN.{take}
 use Rattle.permutation.specs.Table.{Table}
+use Rattle.permutation.specs.declared.Permutation.{Permutation}
 
--- The images of A atoms in row i of the rows t.
-unfoldable pub row : ℕ → ℕ → List ℕ → Table
-row A i t = take A (drop (i * 32) t)
+-- The images of A atoms that a row has.
+unfoldable pub imagesIn : ℕ → List ℕ → Table
+imagesIn A row = take A row
 
--- The rows t with P in row i. Only as many bytes as P has change.
-unfoldable pub withRow : ℕ → Table → List ℕ → List ℕ
-withRow i P t = take (i * 32) t ++ P ++ drop (i * 32 + length P) t
+-- The row that keeps a permutation, and the permutation that a row keeps: whole, however many atoms are in use.
+unfoldable pub rowKept : Permutation → List ℕ
+rowKept p = p .images
+
+unfoldable pub rowHeld : List ℕ → Permutation
+rowHeld row = record { images = row }

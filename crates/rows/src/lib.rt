@@ -1,68 +1,48 @@
-// What stands at a place of a lent table: a permutation in a row of 32 bytes, a byte, a number of two bytes. The run's pending equations and its
-// bindings have such tables. Of a row the first n bytes are read and written, for the caller's n: with the constant 32 a row is two moves, where n
-// that is known at run time alone is a loop. This crate and `permutation` are the only ones that know how a permutation is stored.
-//
-// A caller lends its arrays to these functions as slices: so it learns their lengths, which reading or writing an array's element does not tell.
+// A permutation as it lies in a lent table: a row. The pending equations and the bindings have such rows. This crate and `permutation` are the only
+// ones that know how a permutation is stored.
 
 ghost use mathlib.Core.Path.{_≡_};
-ghost use Prim.Native.Nat.{_+_, _*_, _≤_, _<_};
-ghost use lib.ListN.{length, getD, set};
-ghost use Rattle.permutation.specs.Store.{table, ofTable};
-ghost use Rattle.rows.specs.Rows.{row, withRow};
+ghost use Prim.Native.Nat.{_≤_, _<_};
+ghost use lib.ListN.{length, getD};
+ghost use Rattle.permutation.specs.Table.{image};
+ghost use Rattle.rows.specs.Rows.{rowKept, rowHeld, imagesIn};
+use names::Atom;
 use permutation::Permutation;
 
-// The permutation of n atoms in row i.
-pub fn load(rows: &[u8], i: usize, n: usize) -> Permutation
-    requires { ⌜ (n ≤ 32) × (i * 32 + 32 ≤ length (now rows)) ⌝ }
-    ensures { λ r. ⌜ r ≡ ofTable (row n i (now (rows .entry))) ⌝ }
+pub type Row = [u8; 32];
+
+pub const EMPTY: Row = [0; 32];
+
+// The row that keeps a permutation.
+pub fn keep(p: Permutation) -> Row
+    ensures { λ r. ⌜ r ≡ rowKept p ⌝ }
 {
-    let mut r = Permutation { images: [0; 32] };
-    let start = i * 32;
-    let mut k: usize = 0;
-    while k < n {
-        r.images[k] = rows[start + k];
-        k += 1;
+    p.images
+}
+
+// The permutation that a row keeps.
+pub fn load(row: Row) -> Permutation
+    ensures { λ r. ⌜ r ≡ rowHeld row ⌝ }
+{
+    Permutation { images: row }
+}
+
+// The row is lent on as a slice: so its length is known, which reading an array's element does not tell.
+fn byte(row: &[u8], i: usize) -> u8
+    requires { ⌜ i < length (now row) ⌝ }
+    ensures { λ r. ⌜ r ≡ getD (now (row .entry)) i 0 ⌝ }
+{
+    row[i]
+}
+
+// Where the permutation of n atoms in a row sends an atom: to itself, if it is none of the n. The row is read where it lies.
+pub fn image(row: &Row, n: usize, a: Atom) -> Atom
+    requires { ⌜ n ≤ 32 ⌝ }
+    ensures { λ r. ⌜ r .0 ≡ image (imagesIn n (now (row .entry))) (a .0) ⌝ }
+{
+    let i = a.0 as usize;
+    if i < n {
+        return Atom(byte(row, i));
     }
-    r
-}
-
-// Row i becomes p, of n atoms. Every other byte stays.
-pub fn store(rows: &mut [u8], i: usize, n: usize, p: Permutation)
-    requires { ⌜ (n ≤ 32) × (i * 32 + 32 ≤ length (now rows)) ⌝ }
-    ensures { λ r. ⌜ now (rows .exit) ≡ withRow i (table n p) (now (rows .entry)) ⌝ }
-{
-    let start = i * 32;
-    let mut k: usize = 0;
-    while k < n {
-        rows[start + k] = p.images[k];
-        k += 1;
-    }
-}
-
-pub fn byte(bytes: &[u8], i: usize) -> u8
-    requires { ⌜ i < length (now bytes) ⌝ }
-    ensures { λ r. ⌜ r ≡ getD (now (bytes .entry)) i 0 ⌝ }
-{
-    bytes[i]
-}
-
-pub fn set_byte(bytes: &mut [u8], i: usize, v: u8)
-    requires { ⌜ i < length (now bytes) ⌝ }
-    ensures { λ r. ⌜ now (bytes .exit) ≡ set (now (bytes .entry)) i v ⌝ }
-{
-    bytes[i] = v;
-}
-
-pub fn number(numbers: &[u16], i: usize) -> u16
-    requires { ⌜ i < length (now numbers) ⌝ }
-    ensures { λ r. ⌜ r ≡ getD (now (numbers .entry)) i 0 ⌝ }
-{
-    numbers[i]
-}
-
-pub fn set_number(numbers: &mut [u16], i: usize, v: u16)
-    requires { ⌜ i < length (now numbers) ⌝ }
-    ensures { λ r. ⌜ now (numbers .exit) ≡ set (now (numbers .entry)) i v ⌝ }
-{
-    numbers[i] = v;
+    a
 }

@@ -1,2 +1,4 @@
+pub mod Forms
+pub mod Once
 pub mod Resolving
 pub mod Ruling

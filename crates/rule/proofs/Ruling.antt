@@ -1,40 +1,75 @@
 -- The laws of the rule that fits: what the code tells by two forms is the definition's step.
 use Prim.Native.Nat.{ℕ, _<_}
-use native.Mathlib.Omega.{arith}
-use mathlib.Core.Path.{_≡_, refl, sym, _∙_, ap}
-use mathlib.Core.Logic.{inl, inr}
-use mathlib.Core.Bool.{Bool, true, false, cond}
-use mathlib.Core.List.{List, [], _∷_}
-use lib.Dec.{eqb}
+use mathlib.Core.Path.{_≡_, refl, sym, _∙_, ap, subst, subst₂}
+use mathlib.Core.Logic.{_≢_, inl, inr}
+use mathlib.Core.Bool.{Bool, true, false, not, cond}
+use mathlib.Core.List.{List}
+use lib.Dec.{T, eqb}
+use mir.Val.{hasKey}
 use borrow.Author.Tests.{eq-eqb, ne-eqb}
-use types.Run.{OneOf, miss}
+use types.Run.{OneOf}
 use denote.Enum.Declared.{tagOf}
-use Rattle.names.specs.declared.Atom.{Atom as AtomName}
-use Rattle.names.specs.declared.Variable.{Variable}
 use Rattle.names.specs.declared.NodeId.{NodeId}
-use Rattle.permutation.specs.Table.{Table, image, after, inverted, ofSwaps}
-use Rattle.problem.specs.Problem.{Node, unit-form, atom-form, abstraction-form, pair-form, application-form, suspension-form}
+use Rattle.names.specs.declared.Variable.{Variable}
+use Rattle.permutation.specs.Swaps.{Swaps}
+use Rattle.permutation.specs.Table.{Table, image, after, ofSwaps}
+use Rattle.problem.specs.Problem.{Node, Form as Shape, unit-form, atom-form, abstraction-form, pair-form, application-form, suspension-form}
 use Rattle.problem.specs.Readable.{Named}
-use Rattle.problem.specs.Look.{formTold, Suspended, swapsOf}
+use Rattle.problem.specs.Look.{formTold, untold, Suspended, ownSwaps}
 use Rattle.problem.proofs.Form.{the-type}
+use Rattle.problem.proofs.Looking.{told-back}
 use Rattle.problem.specs.declared.Form.{Form}
 use Rattle.problem.specs.declared.Form.the-variants.{Unit, Atom, Abstraction, Pair, Application, Suspension}
 use Rattle.run.specs.Meaning.{Side, Binding}
-use Rattle.run.specs.Run.{Ground, permuted, under, inside, protection, Step, refuses, goes-on, bound, oneVariable, twoVariables, abstractions, rule}
+use Rattle.run.specs.Run.{Ground, permuted, protection, Step, refuses, bound, oneVariable, twoVariables, abstractions, fitting, rule}
+use Rattle.run.specs.Tops.{Tops, left-suspension, right-suspension, different-forms, tops}
 use Rattle.run.proofs.Did.{occursSide}
-use Rattle.permutation.specs.Store as Store
+use Rattle.run.proofs.Tops.{
+  kind as shape,
+  View,
+  of-suspensions,
+  on-the-left,
+  on-the-right,
+  of-units,
+  of-atoms,
+  of-abstractions,
+  of-pairs,
+  of-applications,
+  of-different,
+  view,
+}
 use Rattle.rule.specs.declared.side.Side.{Side as HeldSide}
-use Rattle.rule.specs.Side.{sideAt}
+use Rattle.rule.specs.Side.{kind, Compound}
 use Rattle.rule.specs.declared.Act.{Act}
 use Rattle.rule.specs.declared.Act.the-variants.{Done, Clash, Inside, Protection, Part, Parts, Renamed, Same, BindLeft, BindRight}
-use Rattle.rule.specs.Rule.{part, stepOf, unitAct, atomAct, abstractionAct, pairAct, applicationAct, compoundAct, unlessInside, unlessProtected, eitherAct, leftAct, rightAct, ruleAct, Told, Decided}
+use Rattle.rule.specs.Rule.{
+  stepOf,
+  Compounds,
+  both-units,
+  both-atoms,
+  both-abstractions,
+  both-pairs,
+  both-applications,
+  different,
+  unlessInside,
+  unlessProtected,
+  eitherAct,
+  Fits,
+  both-suspended,
+  left-suspended,
+  right-suspended,
+  none-suspended,
+  Told,
+  Decided,
+}
+use Rattle.rule.proofs.Forms.{tag-kind, not-kind}
 
 -- ---- what the code's tests tell
 
 pub cond-equal : (m n : ℕ) (x y : Act) → m ≡ n → x ≡ cond (eqb m n) x y
 cond-equal m n x y e = rw (eq-eqb m n e)
 
-pub cond-other : (m n : ℕ) (x y : Act) → (m ≡ n → ⊥) → y ≡ cond (eqb m n) x y
+pub cond-other : (m n : ℕ) (x y : Act) → m ≢ n → y ≡ cond (eqb m n) x y
 cond-other m n x y e = rw (ne-eqb m n e)
 
 pub cond-taken : (b : Bool) (x y : Act) → b ≡ true → x ≡ cond b x y
@@ -43,121 +78,50 @@ cond-taken b x y e = rw e
 pub cond-left : (b : Bool) (x y : Act) → b ≡ false → y ≡ cond b x y
 cond-left b x y e = rw e
 
--- ---- another form than the left one's
+module _ (protected : ℕ → Bool) (x y : Variable) (i j : Bool) where
+  pub either-same : x .0 ≡ y .0 → Same x ≡ eitherAct protected x y i j
+  either-same e = rw (eq-eqb (x .0) (y .0) e)
 
-unit-others : (w : Form) → OneOf (1 ∷ 2 ∷ 3 ∷ 4 ∷ 5 ∷ []) (tagOf the-type w) → Clash ≡ unitAct w
-unit-others Unit h = absurd (miss (1 ∷ 2 ∷ 3 ∷ 4 ∷ 5 ∷ []) 0 tt h)
-unit-others (Atom b) h = refl
-unit-others (Abstraction b n) h = refl
-unit-others (Pair k n) h = refl
-unit-others (Application f n) h = refl
-unit-others (Suspension y) h = refl
+  pub either-right : x .0 ≢ y .0 → protected (x .0) ≡ true → unlessProtected (protected (y .0)) i (BindRight y) ≡ eitherAct protected x y i j
+  either-right n p = rw (ne-eqb (x .0) (y .0) n, p)
 
-atom-others : (P Q : Table) (a : AtomName) (w : Form) → OneOf (0 ∷ 2 ∷ 3 ∷ 4 ∷ 5 ∷ []) (tagOf the-type w) → Clash ≡ atomAct P Q a w
-atom-others P Q a Unit h = refl
-atom-others P Q a (Atom b) h = absurd (miss (0 ∷ 2 ∷ 3 ∷ 4 ∷ 5 ∷ []) 1 tt h)
-atom-others P Q a (Abstraction b n) h = refl
-atom-others P Q a (Pair k n) h = refl
-atom-others P Q a (Application f n) h = refl
-atom-others P Q a (Suspension y) h = refl
+  pub either-left : x .0 ≢ y .0 → protected (x .0) ≡ false → unlessInside j (BindLeft x) ≡ eitherAct protected x y i j
+  either-left n p = rw (ne-eqb (x .0) (y .0) n, p)
 
-abstraction-others : (P Q : Table) (a : AtomName) (m : NodeId) (w : Form) → OneOf (0 ∷ 1 ∷ 3 ∷ 4 ∷ 5 ∷ []) (tagOf the-type w) → Clash ≡ abstractionAct P Q a m w
-abstraction-others P Q a m Unit h = refl
-abstraction-others P Q a m (Atom b) h = refl
-abstraction-others P Q a m (Abstraction b n) h = absurd (miss (0 ∷ 1 ∷ 3 ∷ 4 ∷ 5 ∷ []) 2 tt h)
-abstraction-others P Q a m (Pair k n) h = refl
-abstraction-others P Q a m (Application f n) h = refl
-abstraction-others P Q a m (Suspension y) h = refl
+-- The left form's tag is k, and the right one's is another.
+pub clashing : (P Q : Table) (v w : Form) (k : ℕ) (others : List ℕ) → T (not (hasKey others k)) → tagOf the-type v ≡ k → OneOf others (tagOf the-type w)
+    → Compounds P Q v w Clash
+clashing P Q v w k others n e h = different (λ q. not-kind others k n w h (sym q ∙ sym (tag-kind v) ∙ e))
 
-pair-others : (l m : NodeId) (w : Form) → OneOf (0 ∷ 1 ∷ 2 ∷ 4 ∷ 5 ∷ []) (tagOf the-type w) → Clash ≡ pairAct l m w
-pair-others l m Unit h = refl
-pair-others l m (Atom b) h = refl
-pair-others l m (Abstraction b n) h = refl
-pair-others l m (Pair k n) h = absurd (miss (0 ∷ 1 ∷ 2 ∷ 4 ∷ 5 ∷ []) 3 tt h)
-pair-others l m (Application f n) h = refl
-pair-others l m (Suspension y) h = refl
+-- By which of the two sides is a suspension.
+module _ (A : ℕ) (protected : ℕ → Bool) (bound : ℕ) (made : List (List ℕ)) (nodeVariables : List ℕ) (l r : HeldSide) (act : Act) where
+  -- What the occurs check says of a variable and a node.
+  abbrev Says : NodeId → Variable → Bool → Type 0
+  Says n x o = Told bound made nodeVariables (n .0) (x .0) o
 
-application-others : (f : ℕ) (m : NodeId) (w : Form) → OneOf (0 ∷ 1 ∷ 2 ∷ 3 ∷ 5 ∷ []) (tagOf the-type w) → Clash ≡ applicationAct f m w
-application-others f m Unit h = refl
-application-others f m (Atom b) h = refl
-application-others f m (Abstraction b n) h = refl
-application-others f m (Pair k n) h = refl
-application-others f m (Application h n) k = absurd (miss (0 ∷ 1 ∷ 2 ∷ 3 ∷ 5 ∷ []) 4 tt k)
-application-others f m (Suspension y) h = refl
+  pub decided-both : (x y : Variable) → l .form ≡ Suspension x → r .form ≡ Suspension y
+      → ((i j : Bool) → Says (l .node) y i → Says (r .node) x j → act ≡ eitherAct protected x y i j)
+      → Decided A protected bound made nodeVariables l r act
+  decided-both x y e f h occurring agrees free-left free-right =
+      let i = agrees (y .0) (l .node) (l .images) (rw f at free-right) (inl refl) in
+      let j = agrees (x .0) (r .node) (r .images) (rw e at free-left) (inr refl) in
+      rw (e, f, h _ _ i j) both-suspended
 
--- The left form is known, and the right one is another.
-module _ (P Q : Table) (v w : Form) where
-  pub clash-unit : v ≡ Unit → OneOf (1 ∷ 2 ∷ 3 ∷ 4 ∷ 5 ∷ []) (tagOf the-type w) → Clash ≡ compoundAct P Q v w
-  clash-unit e h = rw e (unit-others w h)
+  pub decided-left : (x : Variable) → l .form ≡ Suspension x → Compound (r .form)
+      → ((j : Bool) → Says (r .node) x j → act ≡ unlessProtected (protected (x .0)) j (BindLeft x))
+      → Decided A protected bound made nodeVariables l r act
+  decided-left x e k h occurring agrees free-left free-right =
+      let j = agrees (x .0) (r .node) (r .images) (rw e at free-left) (inr refl) in
+      rw (e, h _ j) (left-suspended k)
 
-  pub clash-atom : (a : AtomName) → v ≡ Atom a → OneOf (0 ∷ 2 ∷ 3 ∷ 4 ∷ 5 ∷ []) (tagOf the-type w) → Clash ≡ compoundAct P Q v w
-  clash-atom a e h = rw e (atom-others P Q a w h)
+  pub decided-right : (y : Variable) → Compound (l .form) → r .form ≡ Suspension y
+      → ((i : Bool) → Says (l .node) y i → act ≡ unlessProtected (protected (y .0)) i (BindRight y))
+      → Decided A protected bound made nodeVariables l r act
+  decided-right y k f h occurring agrees free-left free-right =
+      let i = agrees (y .0) (l .node) (l .images) (rw f at free-right) (inl refl) in
+      rw (f, h _ i) (right-suspended k)
 
-  pub clash-abstraction : (a : AtomName) (m : NodeId) → v ≡ Abstraction a m → OneOf (0 ∷ 1 ∷ 3 ∷ 4 ∷ 5 ∷ []) (tagOf the-type w) → Clash ≡ compoundAct P Q v w
-  clash-abstraction a m e h = rw e (abstraction-others P Q a m w h)
-
-  pub clash-pair : (l m : NodeId) → v ≡ Pair l m → OneOf (0 ∷ 1 ∷ 2 ∷ 4 ∷ 5 ∷ []) (tagOf the-type w) → Clash ≡ compoundAct P Q v w
-  clash-pair l m e h = rw e (pair-others l m w h)
-
-  pub clash-application : (f : ℕ) (m : NodeId) → v ≡ Application f m → OneOf (0 ∷ 1 ∷ 2 ∷ 3 ∷ 5 ∷ []) (tagOf the-type w) → Clash ≡ compoundAct P Q v w
-  clash-application f m e h = rw e (application-others f m w h)
-
--- ---- which of the two is a suspension
-
-module _ (protected : ℕ → Bool) (occurring : ℕ → Side → Bool) (s t : Side) where
-  pub left-alone : (x : Variable) (w : Form) → OneOf (0 ∷ 1 ∷ 2 ∷ 3 ∷ 4 ∷ []) (tagOf the-type w)
-      → leftAct protected occurring s t x w ≡ unlessProtected (protected (x .0)) (occurring (x .0) t) (BindLeft x)
-  left-alone x Unit h = refl
-  left-alone x (Atom b) h = refl
-  left-alone x (Abstraction b n) h = refl
-  left-alone x (Pair k n) h = refl
-  left-alone x (Application f n) h = refl
-  left-alone x (Suspension y) h = absurd (miss (0 ∷ 1 ∷ 2 ∷ 3 ∷ 4 ∷ []) 5 tt h)
-
-  pub not-left : (v w : Form) → OneOf (0 ∷ 1 ∷ 2 ∷ 3 ∷ 4 ∷ []) (tagOf the-type v) → ruleAct protected occurring s t v w ≡ rightAct protected occurring s t v w
-  not-left Unit w h = refl
-  not-left (Atom a) w h = refl
-  not-left (Abstraction a m) w h = refl
-  not-left (Pair l m) w h = refl
-  not-left (Application f m) w h = refl
-  not-left (Suspension x) w h = absurd (miss (0 ∷ 1 ∷ 2 ∷ 3 ∷ 4 ∷ []) 5 tt h)
-
-  pub not-right : (v w : Form) → OneOf (0 ∷ 1 ∷ 2 ∷ 3 ∷ 4 ∷ []) (tagOf the-type w) → rightAct protected occurring s t v w ≡ compoundAct (s .images) (t .images) v w
-  not-right v Unit h = refl
-  not-right v (Atom b) h = refl
-  not-right v (Abstraction b n) h = refl
-  not-right v (Pair k n) h = refl
-  not-right v (Application f n) h = refl
-  not-right v (Suspension y) h = absurd (miss (0 ∷ 1 ∷ 2 ∷ 3 ∷ 4 ∷ []) 5 tt h)
-
-module _ (A : ℕ) (protected : ℕ → Bool) (bound : ℕ) (roots table : List ℕ) (l r : HeldSide) (act : Act) where
-  pub decided-two : (x y : Variable) → l .form ≡ Suspension x → r .form ≡ Suspension y
-      → ((i j : Bool) → Told bound roots table (l .node .0) (y .0) i → Told bound roots table (r .node .0) (x .0) j → act ≡ eitherAct protected x y i j)
-      → Decided A protected bound roots table l r act
-  decided-two x y e f h o agree fv fw =
-      rw (e, f)
-      (h (o (y .0) (sideAt A (l .images) (l .node))) (o (x .0) (sideAt A (r .images) (r .node))) (agree (y .0) (l .node) (l .images) (rw f at fw) (inl refl))
-      (agree (x .0) (r .node) (r .images) (rw e at fv) (inr refl)))
-
-  pub decided-left : (x : Variable) → l .form ≡ Suspension x → OneOf (0 ∷ 1 ∷ 2 ∷ 3 ∷ 4 ∷ []) (tagOf the-type (r .form))
-      → ((i : Bool) → Told bound roots table (r .node .0) (x .0) i → act ≡ unlessProtected (protected (x .0)) i (BindLeft x)) → Decided A protected bound roots table l r act
-  decided-left x e k h o agree fv fw =
-      h (o (x .0) (sideAt A (r .images) (r .node))) (agree (x .0) (r .node) (r .images) (rw e at fv) (inr refl))
-      ∙ rw e (sym (left-alone protected o (sideAt A (l .images) (l .node)) (sideAt A (r .images) (r .node)) x (r .form) k))
-
-  pub decided-right : (y : Variable) → OneOf (0 ∷ 1 ∷ 2 ∷ 3 ∷ 4 ∷ []) (tagOf the-type (l .form)) → r .form ≡ Suspension y
-      → ((i : Bool) → Told bound roots table (l .node .0) (y .0) i → act ≡ unlessProtected (protected (y .0)) i (BindRight y)) → Decided A protected bound roots table l r act
-  decided-right y k f h o agree fv fw =
-      h (o (y .0) (sideAt A (l .images) (l .node))) (agree (y .0) (l .node) (l .images) (rw f at fw) (inl refl))
-      ∙ sym (not-left protected o (sideAt A (l .images) (l .node)) (sideAt A (r .images) (r .node)) (l .form) (r .form) k ∙ rw f)
-
-  pub decided-none : OneOf (0 ∷ 1 ∷ 2 ∷ 3 ∷ 4 ∷ []) (tagOf the-type (l .form)) → OneOf (0 ∷ 1 ∷ 2 ∷ 3 ∷ 4 ∷ []) (tagOf the-type (r .form))
-      → act ≡ compoundAct (Store.table A (l .images)) (Store.table A (r .images)) (l .form) (r .form) → Decided A protected bound roots table l r act
-  decided-none k m h o agree fv fw =
-      h ∙ sym (not-left protected o (sideAt A (l .images) (l .node)) (sideAt A (r .images) (r .node)) (l .form) (r .form) k
-      ∙ not-right protected o (sideAt A (l .images) (l .node)) (sideAt A (r .images) (r .node)) (l .form) (r .form) m)
-
--- ---- the rule that fits
+-- ---- an act of a suspension is the definition's step
 
 step-cond : (P Q : Table) (s t : Side) (b : Bool) (x y : Act) → stepOf P Q s t (cond b x y) ≡ cond b (stepOf P Q s t x) (stepOf P Q s t y)
 step-cond P Q s t true x y = refl
@@ -184,7 +148,8 @@ module _ (g : Ground) (bs : List Binding) (s t : Side) (P Q : Table) where
       step-cond P Q s t (g .protected (y .0)) Protection (unlessInside (occursSide g bs (y .0) s) (BindRight y))
       ∙ ap (λ (z : Step). cond (g .protected (y .0)) (refuses protection) z) (bound-right y)
 
-  two-either : (x y : Variable) → stepOf P Q s t (leftAct (g .protected) (occursSide g bs) s t x (Suspension y)) ≡ twoVariables g bs P (x .0) s Q (y .0) t
+  two-either : (x y : Variable)
+      → stepOf P Q s t (eitherAct (g .protected) x y (occursSide g bs (y .0) s) (occursSide g bs (x .0) t)) ≡ twoVariables g bs P (x .0) s Q (y .0) t
   unfolding twoVariables
   two-either x y =
       let unprotected : Act = unlessInside (occursSide g bs (x .0) t) (BindLeft x) in
@@ -193,56 +158,106 @@ module _ (g : Ground) (bs : List Binding) (s t : Side) (P Q : Table) where
       ∙ ap (λ (z : Step). cond (eqb (x .0) (y .0)) (stepOf P Q s t (Same x)) z)
       (step-cond P Q s t (g .protected (x .0)) other unprotected ∙ rw (one-right y, bound-left x))
 
+-- ---- the definition's tops, by their kinds
+
+abbrev Top : Type 0
+Top = Shape Table Side
+
+-- A top is of its form's kind.
+shape-kind : (A : ℕ) (P : Table) (π : Swaps) (w : Form) → shape (permuted A P (untold π w)) ≡ kind w
+shape-kind A P π Unit = refl
+shape-kind A P π (Atom a) = refl
+shape-kind A P π (Abstraction a n) = refl
+shape-kind A P π (Pair l r) = refl
+shape-kind A P π (Application f n) = refl
+shape-kind A P π (Suspension x) = refl
+
+tops-left : (P : Table) (X : ℕ) (w : Top) → shape w ≢ 5 → left-suspension P X ≡ tops (suspension-form P X) w
+tops-left P X unit-form h = refl
+tops-left P X (atom-form b) h = refl
+tops-left P X (abstraction-form b v) h = refl
+tops-left P X (pair-form v w) h = refl
+tops-left P X (application-form f v) h = refl
+tops-left P X (suspension-form Q Y) h = absurd (h refl)
+
+tops-right : (v : Top) (Q : Table) (Y : ℕ) → shape v ≢ 5 → right-suspension Q Y ≡ tops v (suspension-form Q Y)
+tops-right unit-form Q Y h = refl
+tops-right (atom-form a) Q Y h = refl
+tops-right (abstraction-form a u) Q Y h = refl
+tops-right (pair-form l r) Q Y h = refl
+tops-right (application-form f u) Q Y h = refl
+tops-right (suspension-form P X) Q Y h = absurd (h refl)
+
+tops-different : {v w : Top} {x : Tops Table Side} → View v w x → shape v ≢ 5 → shape w ≢ 5 → shape v ≢ shape w → different-forms ≡ x
+tops-different of-suspensions h k n = absurd (h refl)
+tops-different (on-the-left a) h k n = absurd (h refl)
+tops-different (on-the-right a) h k n = absurd (k refl)
+tops-different of-units h k n = absurd (n refl)
+tops-different of-atoms h k n = absurd (n refl)
+tops-different of-abstractions h k n = absurd (n refl)
+tops-different of-pairs h k n = absurd (n refl)
+tops-different of-applications h k n = absurd (n refl)
+tops-different (of-different a b c) h k n = refl
+
+-- ---- the rule that fits is the definition's step
+
 module _ (g : Ground) (bs : List Binding) (s t : Side) where
   abbrev pub wholes : Side → Node → Table
-  wholes x v = after (x .images) (ofSwaps (g .atoms) (swapsOf v))
+  wholes x v = after (x .images) (ofSwaps (g .atoms) (ownSwaps v))
 
-  abbrev Ruled : Node → Node → Type 0
-  Ruled v w =
-      stepOf (wholes s v) (wholes t w) s t (ruleAct (g .protected) (occursSide g bs) s t (formTold v) (formTold w))
-      ≡ rule g bs s t (permuted (g .atoms) (s .images) v) (permuted (g .atoms) (t .images) w)
+  abbrev Ruled : Node → Node → Act → Type 0
+  Ruled v w act =
+      stepOf (wholes s v) (wholes t w) s t act ≡ rule g bs s t (permuted (g .atoms) (s .images) v) (permuted (g .atoms) (t .images) w)
 
-  pub ruled : (v w : Node) → Ruled v w
-  unfolding abstractions
-  ruled unit-form unit-form = refl
-  ruled unit-form (atom-form b) = refl
-  ruled unit-form (abstraction-form b n) = refl
-  ruled unit-form (pair-form k n) = refl
-  ruled unit-form (application-form h n) = refl
-  ruled unit-form (suspension-form π Y) = one-right g bs s t (wholes s unit-form) (wholes t (suspension-form π Y)) (record { 0 = Y })
-  ruled (atom-form a) unit-form = refl
-  ruled (atom-form a) (atom-form b) = step-cond (wholes s (atom-form a)) (wholes t (atom-form b)) s t (eqb (image (s .images) a) (image (t .images) b)) Done Clash
-  ruled (atom-form a) (abstraction-form b n) = refl
-  ruled (atom-form a) (pair-form k n) = refl
-  ruled (atom-form a) (application-form h n) = refl
-  ruled (atom-form a) (suspension-form π Y) = one-right g bs s t (wholes s (atom-form a)) (wholes t (suspension-form π Y)) (record { 0 = Y })
-  ruled (abstraction-form a m) unit-form = refl
-  ruled (abstraction-form a m) (atom-form b) = refl
-  ruled (abstraction-form a m) (abstraction-form b n) =
-      step-cond (wholes s (abstraction-form a m)) (wholes t (abstraction-form b n)) s t (eqb (image (s .images) a) (image (t .images) b)) (Part (record { 0 = m }) (record { 0 = n }))
-      (Renamed (record { 0 = image (s .images) a }) (record { 0 = m }) (record { 0 = image (t .images) b }) (record { 0 = n }))
-  ruled (abstraction-form a m) (pair-form k n) = refl
-  ruled (abstraction-form a m) (application-form h n) = refl
-  ruled (abstraction-form a m) (suspension-form π Y) = one-right g bs s t (wholes s (abstraction-form a m)) (wholes t (suspension-form π Y)) (record { 0 = Y })
-  ruled (pair-form l m) unit-form = refl
-  ruled (pair-form l m) (atom-form b) = refl
-  ruled (pair-form l m) (abstraction-form b n) = refl
-  ruled (pair-form l m) (pair-form k n) = refl
-  ruled (pair-form l m) (application-form h n) = refl
-  ruled (pair-form l m) (suspension-form π Y) = one-right g bs s t (wholes s (pair-form l m)) (wholes t (suspension-form π Y)) (record { 0 = Y })
-  ruled (application-form f m) unit-form = refl
-  ruled (application-form f m) (atom-form b) = refl
-  ruled (application-form f m) (abstraction-form b n) = refl
-  ruled (application-form f m) (pair-form k n) = refl
-  ruled (application-form f m) (application-form h n) =
-      step-cond (wholes s (application-form f m)) (wholes t (application-form h n)) s t (eqb f h) (Part (record { 0 = m }) (record { 0 = n })) Clash
-  ruled (application-form f m) (suspension-form π Y) = one-right g bs s t (wholes s (application-form f m)) (wholes t (suspension-form π Y)) (record { 0 = Y })
-  ruled (suspension-form π X) unit-form = one-left g bs s t (wholes s (suspension-form π X)) (wholes t unit-form) (record { 0 = X })
-  ruled (suspension-form π X) (atom-form b) = one-left g bs s t (wholes s (suspension-form π X)) (wholes t (atom-form b)) (record { 0 = X })
-  ruled (suspension-form π X) (abstraction-form b n) = one-left g bs s t (wholes s (suspension-form π X)) (wholes t (abstraction-form b n)) (record { 0 = X })
-  ruled (suspension-form π X) (pair-form k n) = one-left g bs s t (wholes s (suspension-form π X)) (wholes t (pair-form k n)) (record { 0 = X })
-  ruled (suspension-form π X) (application-form h n) = one-left g bs s t (wholes s (suspension-form π X)) (wholes t (application-form h n)) (record { 0 = X })
-  ruled (suspension-form π X) (suspension-form ρ Y) = two-either g bs s t (wholes s (suspension-form π X)) (wholes t (suspension-form ρ Y)) (record { 0 = X }) (record { 0 = Y })
+  module _ (π ρ : Swaps) where
+    -- What the forms stand for in the definition.
+    abbrev left-top : Form → Top
+    left-top v = permuted (g .atoms) (s .images) (untold π v)
+
+    abbrev right-top : Form → Top
+    right-top w = permuted (g .atoms) (t .images) (untold ρ w)
+
+    -- What they suspend their variables under, if they are suspensions.
+    abbrev left-whole : Form → Table
+    left-whole v = wholes s (untold π v)
+
+    abbrev right-whole : Form → Table
+    right-whole w = wholes t (untold ρ w)
+
+    left-compound : (v : Form) → Compound v → shape (left-top v) ≢ 5
+    left-compound v h e = h (sym (shape-kind (g .atoms) (s .images) π v) ∙ e)
+
+    right-compound : (w : Form) → Compound w → shape (right-top w) ≢ 5
+    right-compound w h e = h (sym (shape-kind (g .atoms) (t .images) ρ w) ∙ e)
+
+    ruled-compounds : {v w : Form} {act : Act} → Compound v → Compound w → Compounds (s .images) (t .images) v w act → Ruled (untold π v) (untold ρ w) act
+    unfolding abstractions
+    ruled-compounds h k both-units = refl
+    ruled-compounds h k (both-atoms {a} {b}) =
+        step-cond (left-whole (Atom a)) (right-whole (Atom b)) s t (eqb (image (s .images) (a .0)) (image (t .images) (b .0))) Done Clash
+    ruled-compounds h k (both-abstractions {a} {b} {m} {n}) =
+        let x = image (s .images) (a .0) in
+        let y = image (t .images) (b .0) in
+        step-cond (left-whole (Abstraction a m)) (right-whole (Abstraction b n)) s t (eqb x y) (Part m n) (Renamed (record { 0 = x }) m (record { 0 = y }) n)
+    ruled-compounds h k both-pairs = refl
+    ruled-compounds h k (both-applications {f} {h = i} {m} {n}) =
+        step-cond (left-whole (Application f m)) (right-whole (Application i n)) s t (eqb f i) (Part m n) Clash
+    ruled-compounds h k (different {v} {w} d) =
+        ap (fitting g bs s t) (tops-different (view (left-top v) (right-top w)) (left-compound v h) (right-compound w k) λ e.
+        d (sym (shape-kind (g .atoms) (s .images) π v) ∙ e ∙ shape-kind (g .atoms) (t .images) ρ w))
+
+    ruled-forms : {v w : Form} {act : Act} → Fits (g .protected) (occursSide g bs) s t v w act → Ruled (untold π v) (untold ρ w) act
+    ruled-forms (both-suspended {x} {y}) = two-either g bs s t (left-whole (Suspension x)) (right-whole (Suspension y)) x y
+    ruled-forms (left-suspended {x} {w} k) =
+        let P = left-whole (Suspension x) in
+        one-left g bs s t P (right-whole w) x ∙ ap (fitting g bs s t) (tops-left P (x .0) (right-top w) (right-compound w k))
+    ruled-forms (right-suspended {v} {y} h) =
+        let Q = right-whole (Suspension y) in
+        one-right g bs s t (left-whole v) Q y ∙ ap (fitting g bs s t) (tops-right (left-top v) Q (y .0) (left-compound v h))
+    ruled-forms (none-suspended h k c) = ruled-compounds h k c
+
+  pub ruled : (v w : Node) (act : Act) → Fits (g .protected) (occursSide g bs) s t (formTold v) (formTold w) act → Ruled v w act
+  ruled v w act f = subst₂ (λ x y. Ruled x y act) (sym (told-back v refl)) (sym (told-back w refl)) (ruled-forms (ownSwaps v) (ownSwaps w) f)
 
 -- ---- what an act names
 
@@ -259,57 +274,43 @@ Names variables v w (Same x) = (x .0 < variables) × Suspended v × Suspended w
 Names variables v w (BindLeft x) = Suspended v
 Names variables v w (BindRight x) = Suspended w
 
-names-cond : (variables : ℕ) (v w : Node) (b : Bool) (x y : Act) → Names variables v w x → Names variables v w y → Names variables v w (cond b x y)
-names-cond variables v w true x y f g = f
-names-cond variables v w false x y f g = g
+module _ (variables : ℕ) (v w : Node) where
+  names-cond : (b : Bool) (x y : Act) → Names variables v w x → Names variables v w y → Names variables v w (cond b x y)
+  names-cond true x y f g = f
+  names-cond false x y f g = g
 
-names-one : (variables : ℕ) (v w : Node) (p i : Bool) (act : Act) → Names variables v w act → Names variables v w (unlessProtected p i act)
-names-one variables v w p i act f = names-cond variables v w p Protection (unlessInside i act) tt (names-cond variables v w i Inside act tt f)
+  names-one : (p i : Bool) (act : Act) → Names variables v w act → Names variables v w (unlessProtected p i act)
+  names-one p i act f = names-cond p Protection (unlessInside i act) tt (names-cond i Inside act tt f)
 
-module _ (atoms variables : ℕ) (protected : ℕ → Bool) (occurring : ℕ → Side → Bool) (s t : Side) where
-  pub names : (n : ℕ) (v w : Node) → Named atoms variables n v → Names variables v w (ruleAct protected occurring s t (formTold v) (formTold w))
-  names i unit-form unit-form q = tt
-  names i unit-form (atom-form b) q = tt
-  names i unit-form (abstraction-form b n) q = tt
-  names i unit-form (pair-form k n) q = tt
-  names i unit-form (application-form h n) q = tt
-  names i unit-form (suspension-form ρ Y) q = names-one variables unit-form (suspension-form ρ Y) (protected Y) (occurring Y s) (BindRight (record { 0 = Y })) tt
-  names i (atom-form a) unit-form q = tt
-  names i (atom-form a) (atom-form b) q = names-cond variables (atom-form a) (atom-form b) (eqb (image (s .images) a) (image (t .images) b)) Done Clash tt tt
-  names i (atom-form a) (abstraction-form b n) q = tt
-  names i (atom-form a) (pair-form k n) q = tt
-  names i (atom-form a) (application-form h n) q = tt
-  names i (atom-form a) (suspension-form ρ Y) q = names-one variables (atom-form a) (suspension-form ρ Y) (protected Y) (occurring Y s) (BindRight (record { 0 = Y })) tt
-  names i (abstraction-form a m) unit-form q = tt
-  names i (abstraction-form a m) (atom-form b) q = tt
-  names i (abstraction-form a m) (abstraction-form b n) q =
-      names-cond variables (abstraction-form a m) (abstraction-form b n) (eqb (image (s .images) a) (image (t .images) b)) (Part (record { 0 = m }) (record { 0 = n }))
-      (Renamed (record { 0 = image (s .images) a }) (record { 0 = m }) (record { 0 = image (t .images) b }) (record { 0 = n })) tt tt
-  names i (abstraction-form a m) (pair-form k n) q = tt
-  names i (abstraction-form a m) (application-form h n) q = tt
-  names i (abstraction-form a m) (suspension-form ρ Y) q = names-one variables (abstraction-form a m) (suspension-form ρ Y) (protected Y) (occurring Y s) (BindRight (record { 0 = Y })) tt
-  names i (pair-form l m) unit-form q = tt
-  names i (pair-form l m) (atom-form b) q = tt
-  names i (pair-form l m) (abstraction-form b n) q = tt
-  names i (pair-form l m) (pair-form k n) q = tt
-  names i (pair-form l m) (application-form h n) q = tt
-  names i (pair-form l m) (suspension-form ρ Y) q = names-one variables (pair-form l m) (suspension-form ρ Y) (protected Y) (occurring Y s) (BindRight (record { 0 = Y })) tt
-  names i (application-form f m) unit-form q = tt
-  names i (application-form f m) (atom-form b) q = tt
-  names i (application-form f m) (abstraction-form b n) q = tt
-  names i (application-form f m) (pair-form k n) q = tt
-  names i (application-form f m) (application-form h n) q = names-cond variables (application-form f m) (application-form h n) (eqb f h) (Part (record { 0 = m }) (record { 0 = n })) Clash tt tt
-  names i (application-form f m) (suspension-form ρ Y) q = names-one variables (application-form f m) (suspension-form ρ Y) (protected Y) (occurring Y s) (BindRight (record { 0 = Y })) tt
-  names i (suspension-form π X) unit-form q = names-one variables (suspension-form π X) unit-form (protected X) (occurring X t) (BindLeft (record { 0 = X })) tt
-  names i (suspension-form π X) (atom-form b) q = names-one variables (suspension-form π X) (atom-form b) (protected X) (occurring X t) (BindLeft (record { 0 = X })) tt
-  names i (suspension-form π X) (abstraction-form b n) q = names-one variables (suspension-form π X) (abstraction-form b n) (protected X) (occurring X t) (BindLeft (record { 0 = X })) tt
-  names i (suspension-form π X) (pair-form k n) q = names-one variables (suspension-form π X) (pair-form k n) (protected X) (occurring X t) (BindLeft (record { 0 = X })) tt
-  names i (suspension-form π X) (application-form h n) q = names-one variables (suspension-form π X) (application-form h n) (protected X) (occurring X t) (BindLeft (record { 0 = X })) tt
-  names i (suspension-form π X) (suspension-form ρ Y) q =
-      names-cond variables (suspension-form π X) (suspension-form ρ Y) (eqb X Y) (Same (record { 0 = X }))
-      (cond (protected X) (unlessProtected (protected Y) (occurring Y s) (BindRight (record { 0 = Y }))) (unlessInside (occurring X t) (BindLeft (record { 0 = X }))))
-      (q .0, tt, tt)
-      (names-cond variables (suspension-form π X) (suspension-form ρ Y) (protected X) (unlessProtected (protected Y) (occurring Y s) (BindRight (record { 0 = Y })))
-      (unlessInside (occurring X t) (BindLeft (record { 0 = X })))
-      (names-one variables (suspension-form π X) (suspension-form ρ Y) (protected Y) (occurring Y s) (BindRight (record { 0 = Y })) tt)
-      (names-cond variables (suspension-form π X) (suspension-form ρ Y) (occurring X t) Inside (BindLeft (record { 0 = X })) tt tt))
+  -- Parts have no variable.
+  names-compounds : (P Q : Table) {x y : Form} {act : Act} → Compounds P Q x y act → Names variables v w act
+  names-compounds P Q both-units = tt
+  names-compounds P Q (both-atoms {a} {b}) = names-cond (eqb (image P (a .0)) (image Q (b .0))) Done Clash tt tt
+  names-compounds P Q (both-abstractions {a} {b} {m} {n}) =
+      names-cond (eqb (image P (a .0)) (image Q (b .0))) (Part m n) (Renamed (record { 0 = image P (a .0) }) m (record { 0 = image Q (b .0) }) n) tt tt
+  names-compounds P Q both-pairs = tt
+  names-compounds P Q (both-applications {f} {h} {m} {n}) = names-cond (eqb f h) (Part m n) Clash tt tt
+  names-compounds P Q (different d) = tt
+
+module _ {protected : ℕ → Bool} {occurring : ℕ → Side → Bool} {s t : Side} (atoms variables n : ℕ) where
+  names-forms : (π ρ : Swaps) {v w : Form} {act : Act} → Named atoms variables n (untold π v) → Fits protected occurring s t v w act
+      → Names variables (untold π v) (untold ρ w) act
+  names-forms π ρ q (both-suspended {x} {y}) =
+      let v : Node = suspension-form π (x .0) in
+      let w : Node = suspension-form ρ (y .0) in
+      let left : Act = unlessInside (occurring (x .0) t) (BindLeft x) in
+      let right : Act = unlessProtected (protected (y .0)) (occurring (y .0) s) (BindRight y) in
+      names-cond variables v w (eqb (x .0) (y .0)) (Same x) (cond (protected (x .0)) right left) (q .0, tt, tt)
+      (names-cond variables v w (protected (x .0)) right left
+      (names-one variables v w (protected (y .0)) (occurring (y .0) s) (BindRight y) tt)
+      (names-cond variables v w (occurring (x .0) t) Inside (BindLeft x) tt tt))
+  names-forms π ρ q (left-suspended {x} {w} k) =
+      names-one variables (suspension-form π (x .0)) (untold ρ w) (protected (x .0)) (occurring (x .0) t) (BindLeft x) tt
+  names-forms π ρ q (right-suspended {v} {y} h) =
+      names-one variables (untold π v) (suspension-form ρ (y .0)) (protected (y .0)) (occurring (y .0) s) (BindRight y) tt
+  names-forms π ρ q (none-suspended {v} {w} h k c) = names-compounds variables (untold π v) (untold ρ w) (s .images) (t .images) c
+
+  pub names : (v w : Node) (act : Act) → Named atoms variables n v → Fits protected occurring s t (formTold v) (formTold w) act → Names variables v w act
+  names v w act q f =
+      subst₂ (λ x y. Names variables x y act) (sym (told-back v refl)) (sym (told-back w refl))
+      (names-forms (ownSwaps v) (ownSwaps w) (subst (Named atoms variables n) (told-back v refl) q) f)

@@ -2,7 +2,7 @@
 -- that the two agree is shown in proofs/.
 use Prim.Native.Nat.{ℕ}
 use mathlib.Core.Path.{_≡_}
-use mathlib.Core.Logic.{_⊎_}
+use mathlib.Core.Logic.{_⊎_, _≢_}
 use mathlib.Core.Bool.{Bool, false, cond}
 use mathlib.Core.List.{List, [], _∷_, map}
 use lib.Dec.{eqb}
@@ -17,7 +17,7 @@ use Rattle.sets.specs.Bits.{member}
 use Rattle.run.specs.Meaning.{Side}
 use Rattle.run.specs.Run.{of-variable, of-side, under, clash, inside, protection, Step, refuses, goes-on, done}
 use Rattle.occurs.specs.Reached.{Answered}
-use Rattle.rule.specs.Side.{sideAt}
+use Rattle.rule.specs.Side.{sideAt, sideHeld, kind, Compound, isBound}
 use Rattle.rule.specs.declared.side.Side.{Side as HeldSide}
 use Rattle.rule.specs.declared.Act.{Act}
 use Rattle.rule.specs.declared.Act.the-variants.{Done, Clash, Inside, Protection, Part, Parts, Renamed, Same, BindLeft, BindRight}
@@ -44,57 +44,27 @@ stepOf P Q s t (BindRight x) = goes-on [] ((x .0, under (inverted Q) s) ∷ []) 
 
 -- ---- two sides that are no suspensions
 
--- "Different forms, different atoms, different symbols: 9. Two units or the same atom: done. Applications: the two arguments. Pairs: the left parts on
--- top, then the right parts."
-abbrev pub unitAct : Form → Act
-unitAct Unit = Done
-unitAct (Atom b) = Clash
-unitAct (Abstraction b n) = Clash
-unitAct (Pair k n) = Clash
-unitAct (Application h n) = Clash
-unitAct (Suspension y) = Clash
-
-abbrev pub atomAct : Table → Table → AtomName → Form → Act
-atomAct P Q a Unit = Clash
-atomAct P Q a (Atom b) = cond (eqb (image P (a .0)) (image Q (b .0))) Done Clash
-atomAct P Q a (Abstraction b n) = Clash
-atomAct P Q a (Pair k n) = Clash
-atomAct P Q a (Application h n) = Clash
-atomAct P Q a (Suspension y) = Clash
+-- "different atoms .. : 9", "the same atom: done".
+abbrev pub atomsAct : ℕ → ℕ → Act
+atomsAct a b = cond (eqb a b) Done Clash
 
 -- "with a equal to b, s against t; else s against t under the swap of a and b, and a is demanded fresh for t."
-abbrev pub abstractionAct : Table → Table → AtomName → NodeId → Form → Act
-abstractionAct P Q a m Unit = Clash
-abstractionAct P Q a m (Atom b) = Clash
-abstractionAct P Q a m (Abstraction b n) =
-    cond (eqb (image P (a .0)) (image Q (b .0))) (Part m n) (Renamed (record { 0 = image P (a .0) }) m (record { 0 = image Q (b .0) }) n)
-abstractionAct P Q a m (Pair k n) = Clash
-abstractionAct P Q a m (Application h n) = Clash
-abstractionAct P Q a m (Suspension y) = Clash
+abbrev pub abstractionsAct : ℕ → NodeId → ℕ → NodeId → Act
+abstractionsAct a m b n = cond (eqb a b) (Part m n) (Renamed (record { 0 = a }) m (record { 0 = b }) n)
 
-abbrev pub pairAct : NodeId → NodeId → Form → Act
-pairAct l m Unit = Clash
-pairAct l m (Atom b) = Clash
-pairAct l m (Abstraction b n) = Clash
-pairAct l m (Pair k n) = Parts l m k n
-pairAct l m (Application h n) = Clash
-pairAct l m (Suspension y) = Clash
+-- "different symbols: 9", "Applications: the two arguments".
+abbrev pub applicationsAct : ℕ → NodeId → ℕ → NodeId → Act
+applicationsAct f m h n = cond (eqb f h) (Part m n) Clash
 
-abbrev pub applicationAct : ℕ → NodeId → Form → Act
-applicationAct f m Unit = Clash
-applicationAct f m (Atom b) = Clash
-applicationAct f m (Abstraction b n) = Clash
-applicationAct f m (Pair k n) = Clash
-applicationAct f m (Application h n) = cond (eqb f h) (Part m n) Clash
-applicationAct f m (Suspension y) = Clash
-
-abbrev pub compoundAct : Table → Table → Form → Form → Act
-compoundAct P Q Unit w = unitAct w
-compoundAct P Q (Atom a) w = atomAct P Q a w
-compoundAct P Q (Abstraction a m) w = abstractionAct P Q a m w
-compoundAct P Q (Pair l m) w = pairAct l m w
-compoundAct P Q (Application f m) w = applicationAct f m w
-compoundAct P Q (Suspension x) w = Clash
+-- "Different forms .. : 9", "Two units .. : done", "Pairs: the left parts on top, then the right parts." P and Q are the sides' images.
+pub data Compounds (P Q : Table) : Form → Form → Act → Type 0 where
+  both-units : Compounds P Q Unit Unit Done
+  both-atoms : {a b : AtomName} → Compounds P Q (Atom a) (Atom b) (atomsAct (image P (a .0)) (image Q (b .0)))
+  both-abstractions : {a b : AtomName} {m n : NodeId}
+      → Compounds P Q (Abstraction a m) (Abstraction b n) (abstractionsAct (image P (a .0)) m (image Q (b .0)) n)
+  both-pairs : {l m k n : NodeId} → Compounds P Q (Pair l m) (Pair k n) (Parts l m k n)
+  both-applications : {f h : ℕ} {m n : NodeId} → Compounds P Q (Application f m) (Application h n) (applicationsAct f m h n)
+  different : {v w : Form} → kind v ≢ kind w → Compounds P Q v w Clash
 
 -- ---- a suspension
 
@@ -111,50 +81,38 @@ abbrev pub eitherAct : (ℕ → Bool) → Variable → Variable → Bool → Boo
 eitherAct protected x y i j =
     cond (eqb (x .0) (y .0)) (Same x) (cond (protected (x .0)) (unlessProtected (protected (y .0)) i (BindRight y)) (unlessInside j (BindLeft x)))
 
--- Given which variables are protected and which occur in a side.
-module _ (protected : ℕ → Bool) (occurring : ℕ → Side → Bool) (s t : Side) where
-  abbrev pub leftAct : Variable → Form → Act
-  leftAct x Unit = unlessProtected (protected (x .0)) (occurring (x .0) t) (BindLeft x)
-  leftAct x (Atom b) = unlessProtected (protected (x .0)) (occurring (x .0) t) (BindLeft x)
-  leftAct x (Abstraction b n) = unlessProtected (protected (x .0)) (occurring (x .0) t) (BindLeft x)
-  leftAct x (Pair k n) = unlessProtected (protected (x .0)) (occurring (x .0) t) (BindLeft x)
-  leftAct x (Application h n) = unlessProtected (protected (x .0)) (occurring (x .0) t) (BindLeft x)
-  leftAct x (Suspension y) = eitherAct protected x y (occurring (y .0) s) (occurring (x .0) t)
+-- ---- the rule that fits
 
-  -- The left side is no suspension.
-  abbrev pub rightAct : Form → Form → Act
-  rightAct v Unit = compoundAct (s .images) (t .images) v Unit
-  rightAct v (Atom b) = compoundAct (s .images) (t .images) v (Atom b)
-  rightAct v (Abstraction b n) = compoundAct (s .images) (t .images) v (Abstraction b n)
-  rightAct v (Pair k n) = compoundAct (s .images) (t .images) v (Pair k n)
-  rightAct v (Application h n) = compoundAct (s .images) (t .images) v (Application h n)
-  rightAct v (Suspension y) = unlessProtected (protected (y .0)) (occurring (y .0) s) (BindRight y)
-
-  abbrev pub ruleAct : Form → Form → Act
-  ruleAct Unit w = rightAct Unit w
-  ruleAct (Atom a) w = rightAct (Atom a) w
-  ruleAct (Abstraction a m) w = rightAct (Abstraction a m) w
-  ruleAct (Pair l m) w = rightAct (Pair l m) w
-  ruleAct (Application f m) w = rightAct (Application f m) w
-  ruleAct (Suspension x) w = leftAct x w
+-- By the forms of the sides s and t: two suspensions, one on the left, one on the right, or none. Given which variables are protected and which occur in
+-- a side.
+pub data Fits (protected : ℕ → Bool) (occurring : ℕ → Side → Bool) (s t : Side) : Form → Form → Act → Type 0 where
+  both-suspended : {x y : Variable}
+      → Fits protected occurring s t (Suspension x) (Suspension y) (eitherAct protected x y (occurring (y .0) s) (occurring (x .0) t))
+  left-suspended : {x : Variable} {w : Form} → Compound w
+      → Fits protected occurring s t (Suspension x) w (unlessProtected (protected (x .0)) (occurring (x .0) t) (BindLeft x))
+  right-suspended : {v : Form} {y : Variable} → Compound v
+      → Fits protected occurring s t v (Suspension y) (unlessProtected (protected (y .0)) (occurring (y .0) s) (BindRight y))
+  none-suspended : {v w : Form} {act : Act} → Compound v → Compound w → Compounds (s .images) (t .images) v w act
+      → Fits protected occurring s t v w act
 
 -- ---- what is told
 
 -- o is what the occurs check says of the variable X and the node n.
-abbrev pub Told : ℕ → List ℕ → List ℕ → ℕ → ℕ → Bool → Type 0
-Told bound roots table n X o = (b : Bool) → Answered bound roots table n X b → b ≡ o
+abbrev pub Told : ℕ → List (List ℕ) → List ℕ → ℕ → ℕ → Bool → Type 0
+Told bound made nodeVariables n X o = (b : Bool) → Answered bound made nodeVariables n X b → b ≡ o
 
 -- The variable that the form suspends, if it is a suspension, is not bound.
 abbrev pub Free : ℕ → Form → Type 0
-Free bound Unit = Prim.Unit {0}
-Free bound (Atom a) = Prim.Unit {0}
-Free bound (Abstraction a n) = Prim.Unit {0}
-Free bound (Pair l r) = Prim.Unit {0}
-Free bound (Application f n) = Prim.Unit {0}
-Free bound (Suspension x) = member bound (x .0) ≡ false
+Free bound w = isBound bound w ≡ false
 
--- With whatever agrees with the occurs check on variables that are not bound, the rule is told.
-abbrev pub Decided : ℕ → (ℕ → Bool) → ℕ → List ℕ → List ℕ → HeldSide → HeldSide → Act → Type 0
-Decided A protected bound roots table l r act =
-    (occurring : ℕ → Side → Bool) → ((X : ℕ) (n : NodeId) (p : Permutation) → member bound X ≡ false → (n ≡ l .node) ⊎ (n ≡ r .node) → Told bound roots table (n .0) X (occurring X (sideAt A p n)))
-    → Free bound (l .form) → Free bound (r .form) → act ≡ ruleAct protected occurring (sideAt A (l .images) (l .node)) (sideAt A (r .images) (r .node)) (l .form) (r .form)
+-- What agrees with the occurs check on variables that are not bound, at the nodes of both sides.
+abbrev pub Agrees : ℕ → ℕ → List (List ℕ) → List ℕ → HeldSide → HeldSide → (ℕ → Side → Bool) → Type 0
+Agrees A bound made nodeVariables l r occurring =
+    (X : ℕ) (n : NodeId) (p : Permutation) → member bound X ≡ false → (n ≡ l .node) ⊎ (n ≡ r .node)
+    → Told bound made nodeVariables (n .0) X (occurring X (sideAt A p n))
+
+-- With whatever agrees with the occurs check, the rule that fits is told.
+abbrev pub Decided : ℕ → (ℕ → Bool) → ℕ → List (List ℕ) → List ℕ → HeldSide → HeldSide → Act → Type 0
+Decided A protected bound made nodeVariables l r act =
+    (occurring : ℕ → Side → Bool) → Agrees A bound made nodeVariables l r occurring → Free bound (l .form) → Free bound (r .form)
+    → Fits protected occurring (sideHeld A l) (sideHeld A r) (l .form) (r .form) act

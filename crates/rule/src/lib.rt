@@ -1,17 +1,20 @@
 // Which rule fits two resolved sides (document 01, "The run": "Then one step, the first that fits"). Nothing is changed here: what is to be done is told,
 // with the names that it takes.
 ghost use mathlib.Core.Path.{_≡_};
+ghost use mathlib.Core.Bool.{Bool};
 ghost use Prim.Native.Nat.{_≤_, _<_};
 ghost use Rattle.permutation.specs.Store.{table};
-ghost use mathlib.Core.Bool.{Bool};
+ghost use Rattle.permutation.specs.Table.{image};
 ghost use Rattle.sets.specs.Bits.{member};
-ghost use Rattle.rule.specs.Side.{RootsThere};
-ghost use Rattle.rule.specs.Rule.{atomAct, abstractionAct, applicationAct, compoundAct, unlessInside, unlessProtected, eitherAct, Told, Decided};
-ghost use Rattle.problem.specs.declared.Form.the-variants as form;
+ghost use Rattle.bindings.specs.Bindings.{NodesThere};
+ghost use Rattle.rule.specs.Side.{Compound};
+ghost use Rattle.rule.specs.Rule.{atomsAct, abstractionsAct, applicationsAct, Compounds, unlessInside, unlessProtected, eitherAct, Told, Decided};
 use crate::side::Side;
+use bindings::Made;
 use names::Atom;
 use names::NodeId;
 use names::Variable;
+use occurs::NodeVariables;
 use permutation::Permutation;
 use problem::Form;
 use sets::VariableSet;
@@ -35,7 +38,7 @@ pub enum Act {
 // "different atoms .. : 9", "the same atom: done".
 fn two_atoms(p: Permutation, a: Atom, q: Permutation, b: Atom, atoms: usize) -> Act
     requires { ⌜ atoms ≤ 32 ⌝ }
-    ensures { λ r. ⌜ r ≡ atomAct (table atoms p) (table atoms q) a (form.Atom b) ⌝ }
+    ensures { λ r. ⌜ r ≡ atomsAct (image (table atoms p) (a .0)) (image (table atoms q) (b .0)) ⌝ }
 {
     let x = permutation::image(p, atoms, a);
     let y = permutation::image(q, atoms, b);
@@ -56,7 +59,7 @@ fn two_abstractions(
     atoms: usize,
 ) -> Act
     requires { ⌜ atoms ≤ 32 ⌝ }
-    ensures { λ r. ⌜ r ≡ abstractionAct (table atoms p) (table atoms q) a m (form.Abstraction b n) ⌝ }
+    ensures { λ r. ⌜ r ≡ abstractionsAct (image (table atoms p) (a .0)) m (image (table atoms q) (b .0)) n ⌝ }
 {
     let x = permutation::image(p, atoms, a);
     let y = permutation::image(q, atoms, b);
@@ -68,7 +71,7 @@ fn two_abstractions(
 
 // "different symbols: 9", "Applications: the two arguments".
 fn two_applications(f: u16, m: NodeId, h: u16, n: NodeId) -> Act
-    ensures { λ r. ⌜ r ≡ applicationAct f m (form.Application h n) ⌝ }
+    ensures { λ r. ⌜ r ≡ applicationsAct f m h n ⌝ }
 {
     if f == h {
         return Act::Part(m, n);
@@ -78,8 +81,8 @@ fn two_applications(f: u16, m: NodeId, h: u16, n: NodeId) -> Act
 
 // Two sides that are no suspensions: "Different forms .. : 9".
 fn compounds(left: Side, right: Side, atoms: usize) -> Act
-    requires { ⌜ atoms ≤ 32 ⌝ }
-    ensures { λ r. ⌜ r ≡ compoundAct (table atoms (left .images)) (table atoms (right .images)) (left .form) (right .form) ⌝ }
+    requires { ⌜ (atoms ≤ 32) × Compound (left .form) ⌝ }
+    ensures { λ r. ⌜ Compounds (table atoms (left .images)) (table atoms (right .images)) (left .form) (right .form) r ⌝ }
 {
     let v = left.form;
     let w = right.form;
@@ -122,17 +125,19 @@ fn compounds(left: Side, right: Side, atoms: usize) -> Act
 
 // "if X occurs in the right side, looked at through all bindings, 10".
 fn unless_inside(
-    x: Variable,
+    node_variables: &NodeVariables,
+    made: &Made,
     bound: VariableSet,
-    roots: &[u16; 64],
-    node_variables: &[u64; 512],
+    x: Variable,
     other: NodeId,
     act: Act,
 ) -> Act
-    requires { ⌜ (other .0 < 512) × RootsThere 512 (now roots) (bound .0) ⌝ }
-    ensures { λ r. ⌜ ((o : Bool) → Told (bound .0) (now (roots .entry)) (now («node_variables» .entry)) (other .0) (x .0) o → r ≡ unlessInside o act) ⌝ }
+    requires { ⌜ (other .0 < 512) × NodesThere 512 (now made) (bound .0) ⌝ }
+    ensures { λ r. ⌜ ((o : Bool)
+        → Told (bound .0) (now (made .entry)) (now («node_variables» .entry)) (other .0) (x .0) o
+        → r ≡ unlessInside o act) ⌝ }
 {
-    if occurs::occurs(x, bound, roots, node_variables, other) {
+    if occurs::occurs(node_variables, made, bound, x, other) {
         return Act::Inside;
     }
     act
@@ -140,66 +145,64 @@ fn unless_inside(
 
 // "an unprotected X under P", and "Any other suspension: 11".
 fn one_variable(
+    node_variables: &NodeVariables,
+    made: &Made,
     protected: VariableSet,
-    x: Variable,
     bound: VariableSet,
-    roots: &[u16; 64],
-    node_variables: &[u64; 512],
+    x: Variable,
     other: NodeId,
     act: Act,
 ) -> Act
-    requires { ⌜ (other .0 < 512) × RootsThere 512 (now roots) (bound .0) ⌝ }
-    ensures { λ r. ⌜ ((o : Bool) → Told (bound .0) (now (roots .entry)) (now («node_variables» .entry)) (other .0) (x .0) o → r ≡ unlessProtected (member (protected .0) (x .0)) o act) ⌝ }
+    requires { ⌜ (other .0 < 512) × NodesThere 512 (now made) (bound .0) ⌝ }
+    ensures { λ r. ⌜ ((o : Bool)
+        → Told (bound .0) (now (made .entry)) (now («node_variables» .entry)) (other .0) (x .0) o
+        → r ≡ unlessProtected (member (protected .0) (x .0)) o act) ⌝ }
 {
     if protected.has(x) {
         return Act::Protection;
     }
-    unless_inside(x, bound, roots, node_variables, other, act)
+    unless_inside(node_variables, made, bound, x, other, act)
 }
 
 // Two suspensions: "of one variable X", or the left variable is bound if it is not protected, else the right one.
 fn two_variables(
+    node_variables: &NodeVariables,
+    made: &Made,
     protected: VariableSet,
+    bound: VariableSet,
     x: Variable,
     y: Variable,
-    bound: VariableSet,
-    roots: &[u16; 64],
-    node_variables: &[u64; 512],
     left: NodeId,
     right: NodeId,
 ) -> Act
-    requires { ⌜ (left .0 < 512) × (right .0 < 512) × RootsThere 512 (now roots) (bound .0) ⌝ }
-    ensures { λ r. ⌜ ((i j : Bool) → Told (bound .0) (now (roots .entry)) (now («node_variables» .entry)) (left .0) (y .0) i → Told (bound .0) (now (roots .entry)) (now («node_variables» .entry)) (right .0) (x .0) j → r ≡ eitherAct (member (protected .0)) x y i j) ⌝ }
+    requires { ⌜ (left .0 < 512) × (right .0 < 512) × NodesThere 512 (now made) (bound .0) ⌝ }
+    ensures { λ r. ⌜ ((i j : Bool)
+        → Told (bound .0) (now (made .entry)) (now («node_variables» .entry)) (left .0) (y .0) i
+        → Told (bound .0) (now (made .entry)) (now («node_variables» .entry)) (right .0) (x .0) j
+        → r ≡ eitherAct (member (protected .0)) x y i j) ⌝ }
 {
     if x.0 == y.0 {
         return Act::Same(x);
     }
     if protected.has(x) {
-        return one_variable(
-            protected,
-            y,
-            bound,
-            roots,
-            node_variables,
-            left,
-            Act::BindRight(y),
-        );
+        let bind = Act::BindRight(y);
+        return one_variable(node_variables, made, protected, bound, y, left, bind);
     }
-    unless_inside(x, bound, roots, node_variables, right, Act::BindLeft(x))
+    unless_inside(node_variables, made, bound, x, right, Act::BindLeft(x))
 }
 
 // "Then one step, the first that fits".
 pub fn decide(
+    node_variables: &NodeVariables,
+    made: &Made,
+    atoms: usize,
     protected: VariableSet,
     bound: VariableSet,
-    roots: &[u16; 64],
-    node_variables: &[u64; 512],
-    atoms: usize,
     left: Side,
     right: Side,
 ) -> Act
-    requires { ⌜ (atoms ≤ 32) × (left .node .0 < 512) × (right .node .0 < 512) × RootsThere 512 (now roots) (bound .0) ⌝ }
-    ensures { λ r. ⌜ Decided atoms (member (protected .0)) (bound .0) (now (roots .entry)) (now («node_variables» .entry)) left right r ⌝ }
+    requires { ⌜ (atoms ≤ 32) × (left .node .0 < 512) × (right .node .0 < 512) × NodesThere 512 (now made) (bound .0) ⌝ }
+    ensures { λ r. ⌜ Decided atoms (member (protected .0)) (bound .0) (now (made .entry)) (now («node_variables» .entry)) left right r ⌝ }
 {
     let v = left.form;
     let w = right.form;
@@ -207,28 +210,14 @@ pub fn decide(
     let r = right.node;
     if let Form::Suspension(x) = v {
         if let Form::Suspension(y) = w {
-            return two_variables(protected, x, y, bound, roots, node_variables, l, r);
+            return two_variables(node_variables, made, protected, bound, x, y, l, r);
         }
-        return one_variable(
-            protected,
-            x,
-            bound,
-            roots,
-            node_variables,
-            r,
-            Act::BindLeft(x),
-        );
+        let bind = Act::BindLeft(x);
+        return one_variable(node_variables, made, protected, bound, x, r, bind);
     }
     if let Form::Suspension(y) = w {
-        return one_variable(
-            protected,
-            y,
-            bound,
-            roots,
-            node_variables,
-            l,
-            Act::BindRight(y),
-        );
+        let bind = Act::BindRight(y);
+        return one_variable(node_variables, made, protected, bound, y, l, bind);
     }
     compounds(left, right, atoms)
 }

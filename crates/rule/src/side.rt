@@ -3,15 +3,18 @@ ghost use mathlib.Core.Path.{_≡_};
 ghost use Prim.Native.Nat.{_<_};
 ghost use lib.ListN.{length};
 ghost use Rattle.permutation.specs.Store.{table};
-ghost use Rattle.permutation.specs.Table.{after, ofSwaps};
 ghost use Rattle.problem.specs.Held.{problemOf};
-ghost use Rattle.problem.specs.Look.{formNow, Suspended, swapsOf};
-ghost use Rattle.rule.specs.Side.{Readied, isBound, Valued, RootsThere, Resolved, sideAt, wholeOf};
+ghost use Rattle.problem.specs.Look.{formNow, Suspended, Standing};
+ghost use Rattle.bindings.specs.Bindings.{tables, NodesThere};
+ghost use Rattle.rule.specs.Side.{isBound, Valued, Resolved, sideAt, wholeOf};
 use bindings::Found;
+use bindings::Made;
 use bindings::Value;
+use bindings::Values;
 use names::NodeId;
 use permutation::Permutation;
 use problem::Form;
+use problem::Places;
 use sets::VariableSet;
 
 // "Each side is a permutation and a node."
@@ -24,12 +27,15 @@ pub struct Side {
 // A suspension under a side's images: first its own swaps, then the images. Most have no swaps, and nothing is composed.
 pub fn whole(
     s: &[u8],
-    places: &[u16; 512],
+    places: &Places,
     atoms: usize,
     images: Permutation,
     node: NodeId,
 ) -> Permutation
-    requires { ⌜ Readied (now s) (now places) atoms × (node .0 < length (problemOf (now s) .nodes)) × Suspended (formNow (now s) (node .0)) ⌝ }
+    requires { ⌜ Standing (now s) (now places)
+        × (atoms ≡ problemOf (now s) .atoms)
+        × (node .0 < length (problemOf (now s) .nodes))
+        × Suspended (formNow (now s) (node .0)) ⌝ }
     ensures { λ r. ⌜ table atoms r ≡ wholeOf (now (s .entry)) atoms (table atoms images) (node .0) ⌝ }
 {
     let swaps = problem::look::swaps_of(s, places, node);
@@ -41,8 +47,8 @@ pub fn whole(
 }
 
 // What a form is replaced by: the value of a bound variable.
-fn value_of(roots: &[u16; 64], value_images: &[u8; 2048], bound: VariableSet, form: Form) -> Found
-    ensures { λ r. ⌜ Valued (now (roots .entry)) (now («value_images» .entry)) (bound .0) form r ⌝ }
+fn value_of(made: &Made, values: &Values, bound: VariableSet, form: Form) -> Found
+    ensures { λ r. ⌜ Valued (tables (now (made .entry)) (now (values .entry))) (bound .0) form r ⌝ }
 {
     let Form::Suspension(x) = form else {
         let images = permutation::identity(0);
@@ -55,7 +61,7 @@ fn value_of(roots: &[u16; 64], value_images: &[u8; 2048], bound: VariableSet, fo
             value: value,
         };
     };
-    bindings::look_up(roots, value_images, bound, x)
+    bindings::look_up(made, values, bound, x)
 }
 
 // Whether a form is a suspension of a bound variable.
@@ -72,17 +78,21 @@ pub fn is_bound(form: Form, bound: VariableSet) -> bool
 // binding.
 pub fn resolve(
     s: &[u8],
-    places: &[u16; 512],
+    places: &Places,
+    made: &Made,
+    values: &Values,
     atoms: usize,
-    roots: &[u16; 64],
-    value_images: &[u8; 2048],
     bound: VariableSet,
     count: usize,
     images: Permutation,
     node: NodeId,
 ) -> Side
-    requires { ⌜ Readied (now s) (now places) atoms × (node .0 < length (problemOf (now s) .nodes)) × RootsThere (length (problemOf (now s) .nodes)) (now roots) (bound .0) ⌝ }
-    ensures { λ r. ⌜ Resolved (now (s .entry)) atoms (now (roots .entry)) (now («value_images» .entry)) (bound .0) count (sideAt atoms images node) r ⌝ }
+    requires { ⌜ Standing (now s) (now places)
+        × (atoms ≡ problemOf (now s) .atoms)
+        × (node .0 < length (problemOf (now s) .nodes))
+        × NodesThere (length (problemOf (now s) .nodes)) (now made) (bound .0) ⌝ }
+    ensures { λ r. ⌜ Resolved (now (s .entry)) atoms (tables (now (made .entry)) (now (values .entry))) (bound .0) count
+        (sideAt atoms images node) r ⌝ }
 {
     let mut p = images;
     let mut at = node;
@@ -96,7 +106,7 @@ pub fn resolve(
                 form: form,
             };
         }
-        let found = value_of(roots, value_images, bound, form);
+        let found = value_of(made, values, bound, form);
         if !found.bound {
             return Side {
                 images: p,

@@ -11,11 +11,12 @@ use lib.ListN.{length, length-append}
 use borrow.Author.Tests.{eq-eqb, ne-eqb}
 use Rattle.permutation.specs.Swaps.{Swaps, Alike}
 use Rattle.permutation.specs.Table.{Table, after, ofSwaps, swapsOf}
-use Rattle.permutation.proofs.Swaps.{by-eq}
+use Rattle.names.proofs.Equal.{by-eq}
 use Rattle.nominal.specs.Tree.{Tree, suspension, variable, Occurs, Substitution, substitute, composed, replacing}
 use Rattle.nominal.specs.Figure2.{Environment, _⊢_≈_}
 use Rattle.nominal.specs.Solutions.{Satisfies, Idempotent}
-use Rattle.nominal.proofs.Tree.{permute-nil, substitute-permute, substitute-variable, substitute-composed, substitute-agree, occurs-substitute, occurs-substituted}
+use Rattle.nominal.proofs.Tree.{permute-nil, substitute-permute, substitute-variable, substitute-composed, substitute-agree, occurs-substitute}
+use Rattle.nominal.proofs.Tree.{occurs-substituted}
 use Rattle.nominal.proofs.Laws.{equal-symmetric, equal-transitive, equal-reflexive}
 use Rattle.nominal.proofs.Solutions.{satisfies-tree}
 use Rattle.nominal.proofs.Replacing.{replacing-same, replacing-other, replacing-absent, extended-same, extended-other, extended-tree, extended-satisfied}
@@ -25,8 +26,10 @@ use Rattle.run.specs.Meaning.{Side, sideTree, Binding, meaningAfter, mea
 use Rattle.run.specs.Run.{Ground, permuted, top, valueOf, under, replaced, resolvedIn, resolved}
 use Rattle.nominal.specs.Same.{Same}
 use Rattle.run.proofs.Same.{same-reflexive, same-symmetric, same-transitive, same-permute, same-substitute, same-equal}
-use Rattle.run.proofs.Did.{kind, Root, suspended, otherwise, root, not-of}
-use Rattle.run.proofs.Trees.{Permuting, Fits, fits-under, tree-under, act-permuting, Shows, TopFits, top-shows, top-fits, NamedTree, named-substitute, named-side}
+use Rattle.run.proofs.Tops.{kind}
+use Rattle.run.proofs.Did.{Root, suspended, otherwise, root, not-of}
+use Rattle.run.proofs.Trees.{Permuting, Fits, fits-under, tree-under, act-permuting, Shows, TopFits, top-shows, top-fits, NamedTree, named-substitute}
+use Rattle.run.proofs.Trees.{named-side}
 
 -- ---- the value of a variable
 
@@ -94,7 +97,8 @@ pub record Meant (g : Ground) (variables : ℕ) (bs : List Binding) (σ : Substi
   pub settles : (s : Side) → Settled bs (top g (resolved g bs s))
   -- Who takes each bound variable and its value for equal takes each variable and its meaning for equal.
   pub follows : (∇ : Environment) (τ : Substitution) → Lines ∇ τ (g .nodes) bs → Satisfies ∇ τ σ
-  pub absorbs : (τ : Substitution) → ((X : ℕ) (v : Side) → valueOf bs X ≡ some v → τ X ≡ substitute τ (sideTree (g .nodes) v)) → (X : ℕ) → τ X ≡ substitute τ (σ X)
+  pub absorbs : (τ : Substitution) → ((X : ℕ) (v : Side) → valueOf bs X ≡ some v → τ X ≡ substitute τ (sideTree (g .nodes) v)) → (X : ℕ)
+      → τ X ≡ substitute τ (σ X)
 
 module _ {g : Ground} {variables : ℕ} {bs : List Binding} {σ : Substitution} (m : Meant g variables bs σ) where
   -- A substitution that leaves unbound variables as they are leaves σX as it is.
@@ -106,7 +110,8 @@ module _ {g : Ground} {variables : ℕ} {bs : List Binding} {σ : Substitution} 
   meant-idempotent = fixed σ (m .free)
 
   -- It is the only one of which the two equations hold.
-  pub meant-only : (τ : Substitution) → ((X : ℕ) → valueOf bs X ≡ none → τ X ≡ variable X) → ((X : ℕ) (v : Side) → valueOf bs X ≡ some v → τ X ≡ substitute τ (sideTree (g .nodes) v))
+  pub meant-only : (τ : Substitution) → ((X : ℕ) → valueOf bs X ≡ none → τ X ≡ variable X)
+      → ((X : ℕ) (v : Side) → valueOf bs X ≡ some v → τ X ≡ substitute τ (sideTree (g .nodes) v))
       → (X : ℕ) → τ X ≡ σ X
   meant-only τ h k X = m .absorbs τ k X ∙ fixed τ h X
 
@@ -124,11 +129,13 @@ module _ {g : Ground} {variables : ℕ} {bs : List Binding} {σ : Substitution} 
 -- ---- resolving
 
 -- The variable at a side's root is the same under any permutation.
-pub top-under : (g : Ground) (P : Table) (v : Side) (R : Table) (Z : ℕ) → top g (under P v) ≡ suspension-form R Z → (Q : Table) × (top g v ≡ suspension-form Q Z)
+pub top-under : (g : Ground) (P : Table) (v : Side) (R : Table) (Z : ℕ) → top g (under P v) ≡ suspension-form R Z
+    → (Q : Table) × (top g v ≡ suspension-form Q Z)
 unfolding top
 top-under g P v R Z = by-form (formAt (g .nodes) (v .node))
   where
-    by-form : (f : Node) → permuted (g .atoms) (after P (v .images)) f ≡ suspension-form R Z → (Q : Table) × (permuted (g .atoms) (v .images) f ≡ suspension-form Q Z)
+    by-form : (f : Node) → permuted (g .atoms) (after P (v .images)) f ≡ suspension-form R Z
+        → (Q : Table) × (permuted (g .atoms) (v .images) f ≡ suspension-form Q Z)
     by-form unit-form e = ([], cc)
     by-form (atom-form a) e = ([], cc)
     by-form (abstraction-form a n) e = ([], cc)
@@ -150,8 +157,10 @@ settled-other bs w n P X e = absurd (not-of X w n P e)
 
 module _ (g : Ground) (bs : List Binding) where
   -- One replacement keeps R, so resolving does.
-  module _ (R : Side → Type 0) (once : (s : Side) (P : Table) (X : ℕ) (v : Side) → R s → top g s ≡ suspension-form P X → valueOf bs X ≡ some v → R (under P v)) where
-    replaced-keeps : (s : Side) → R s → (onward : Side → Side) → ((t : Side) → R t → R (onward t)) → {w : Form Table Side} → Root w → top g s ≡ w → R (replaced bs s w onward)
+  module _ (R : Side → Type 0)
+      (once : (s : Side) (P : Table) (X : ℕ) (v : Side) → R s → top g s ≡ suspension-form P X → valueOf bs X ≡ some v → R (under P v)) where
+    replaced-keeps : (s : Side) → R s → (onward : Side → Side) → ((t : Side) → R t → R (onward t)) → {w : Form Table Side} → Root w → top g s ≡ w
+        → R (replaced bs s w onward)
     replaced-keeps s r onward k (suspended P X) e = by-value (valueOf bs X) (λ q. rw q r) (λ v q. rw q (k (under P v) (once s P X v r e q)))
     replaced-keeps s r onward k {w} (otherwise n) e = rw (replaced-other bs s onward w n) r
 
@@ -179,12 +188,14 @@ module _ (g : Ground) (bs : List Binding) (b : Binding) (free : valueOf bs (b .v
   settled-under : (P : Table) → Settled (bs ++ (b ∷ [])) (top g (under P (b .value)))
   settled-under P R Z e = let k = top-under g P (b .value) R Z e in apart (k .0) Z (k .1)
 
-  settled-once : (s : Side) (k : ℕ) {w : Form Table Side} → Root w → top g s ≡ w → Settled bs w → Settled (bs ++ (b ∷ [])) (top g (replaced (bs ++ (b ∷ [])) s w (λ t. resolvedIn k g (bs ++ (b ∷ [])) t)))
+  settled-once : (s : Side) (k : ℕ) {w : Form Table Side} → Root w → top g s ≡ w → Settled bs w
+      → Settled (bs ++ (b ∷ [])) (top g (replaced (bs ++ (b ∷ [])) s w (λ t. resolvedIn k g (bs ++ (b ∷ [])) t)))
   settled-once s k (suspended P X) e h =
       by-eq X (b .variable)
       (λ q. rw (q, valueOf-new bs b free, resolvedIn-settled g (bs ++ (b ∷ [])) k (under P (b .value)) (settled-under P)) (settled-under P))
       (λ n. rw (valueOf-other bs b X n, h P X refl, e) (λ Q Y q. let z : Y ≡ X = cc in rw z (valueOf-other bs b X n ∙ h P X refl)))
-  settled-once s k {w} (otherwise n) e h = rw (replaced-other (bs ++ (b ∷ [])) s (λ t. resolvedIn k g (bs ++ (b ∷ [])) t) w n, e) (settled-other (bs ++ (b ∷ [])) w n)
+  settled-once s k {w} (otherwise n) e h =
+      rw (replaced-other (bs ++ (b ∷ [])) s (λ t. resolvedIn k g (bs ++ (b ∷ [])) t) w n, e) (settled-other (bs ++ (b ∷ [])) w n)
 
   settled-step : (s : Side) (k : ℕ)
       → ((t : Side) → Settled bs (top g (resolvedIn k g bs t)) → Settled (bs ++ (b ∷ [])) (top g (resolvedIn (suc k) g (bs ++ (b ∷ [])) t)))
@@ -247,7 +258,8 @@ module _ (g : Ground) (variables : ℕ) (named : (n : ℕ) → Named (g .atoms) 
         → ∇ ⊢ substitute τ (sideTree (g .nodes) s) ≈ substitute τ (sideTree (g .nodes) (resolved g bs s))
     resolved-equal τ h s f =
         equal-transitive (satisfies-tree τ σ h (sideTree (g .nodes) s))
-        (equal-transitive (same-equal (same-substitute τ (resolved-same s f .1))) (equal-symmetric (satisfies-tree τ σ h (sideTree (g .nodes) (resolved g bs s)))))
+        (equal-transitive (same-equal (same-substitute τ (resolved-same s f .1)))
+        (equal-symmetric (satisfies-tree τ σ h (sideTree (g .nodes) (resolved g bs s)))))
 
   -- ---- no bindings, and one more
 
@@ -302,7 +314,8 @@ module _ (g : Ground) (variables : ℕ) (named : (n : ℕ) → Named (g .atoms) 
         ∙ sym (extended-tree σ (b .variable) worth′ (sideTree (g .nodes) (b .value)) ∙ replacing-absent (b .variable) worth′ worth′ (s .absent))
 
     old-worth : (X : ℕ) (v : Side) → valueOf bs X ≡ some v → σ′ X ≡ substitute σ′ (sideTree (g .nodes) v)
-    old-worth X v e = ap (substitute (replacing (b .variable) worth′)) (m .worth X v e) ∙ substitute-composed (replacing (b .variable) worth′) σ (sideTree (g .nodes) v)
+    old-worth X v e =
+        ap (substitute (replacing (b .variable) worth′)) (m .worth X v e) ∙ substitute-composed (replacing (b .variable) worth′) σ (sideTree (g .nodes) v)
 
     gone′ : (X Y : ℕ) → Occurs Y (σ′ X) → valueOf (bs ++ (b ∷ [])) Y ≡ none
     gone′ X Y o =
@@ -320,7 +333,8 @@ module _ (g : Ground) (variables : ℕ) (named : (n : ℕ) → Named (g .atoms) 
         named-substitute (g .atoms) variables (replacing (b .variable) worth′)
         (λ Y l. by-eq Y (b .variable)
         (λ q. rw (q, replacing-same)
-        (named-substitute (g .atoms) variables σ (m .named) (sideTree (g .nodes) (b .value)) (named-side (g .atoms) variables (g .nodes) named (b .value) (s .fits .images))))
+        (named-substitute (g .atoms) variables σ (m .named) (sideTree (g .nodes) (b .value))
+        (named-side (g .atoms) variables (g .nodes) named (b .value) (s .fits .images))))
         (λ n. rw (replacing-other (b .variable) worth′ Y n) (l, tt)))
         (σ X) (m .named X h)
 
@@ -333,7 +347,8 @@ module _ (g : Ground) (variables : ℕ) (named : (n : ℕ) → Named (g .atoms) 
         extended-satisfied σ (b .variable) worth′ τ (m .free (b .variable) (s .unbound)) .0
         (equal-transitive (h (b .variable) (b .value) (valueOf-new bs b (s .unbound))) (satisfies-tree τ σ k (sideTree (g .nodes) (b .value))), k)
 
-    absorbs′ : (τ : Substitution) → ((X : ℕ) (v : Side) → valueOf (bs ++ (b ∷ [])) X ≡ some v → τ X ≡ substitute τ (sideTree (g .nodes) v)) → (X : ℕ) → τ X ≡ substitute τ (σ′ X)
+    absorbs′ : (τ : Substitution) → ((X : ℕ) (v : Side) → valueOf (bs ++ (b ∷ [])) X ≡ some v → τ X ≡ substitute τ (sideTree (g .nodes) v)) → (X : ℕ)
+        → τ X ≡ substitute τ (σ′ X)
     absorbs′ τ h X =
         let k : (Y : ℕ) → τ Y ≡ substitute τ (σ Y) = m .absorbs τ (λ Y v e. h Y v (valueOf-kept bs (b ∷ []) Y v e)) in
         let w : τ (b .variable) ≡ substitute τ worth′ =
@@ -360,7 +375,8 @@ module _ (g : Ground) (variables : ℕ) (named : (n : ℕ) → Named (g .atoms) 
 
 -- The definition's meaning of one more binding.
 meaningAfter-more : (nodes : List Node) (σ : Substitution) (bs : List Binding) (b : Binding)
-    → meaningAfter nodes σ (bs ++ (b ∷ [])) ≡ composed (replacing (b .variable) (substitute (meaningAfter nodes σ bs) (sideTree nodes (b .value)))) (meaningAfter nodes σ bs)
+    → meaningAfter nodes σ (bs ++ (b ∷ []))
+    ≡ composed (replacing (b .variable) (substitute (meaningAfter nodes σ bs) (sideTree nodes (b .value)))) (meaningAfter nodes σ bs)
 unfolding meaningAfter
 meaningAfter-more nodes σ [] b = refl
 meaningAfter-more nodes σ (c ∷ bs) b = meaningAfter-more nodes (composed (replacing (c .variable) (substitute σ (sideTree nodes (c .value)))) σ) bs b

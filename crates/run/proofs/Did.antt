@@ -1,4 +1,4 @@
--- What a step can do, once: document 01's cases read backwards. Every property of a step is proved from these, and not from its 36 pairs of forms.
+-- What a step can do, once: document 01's cases read backwards. Every property of a step is proved from these.
 use Prim.Native.Nat.{ℕ, _<_}
 use native.Mathlib.Omega.{arith}
 use mathlib.Core.Path.{_≡_, refl}
@@ -11,17 +11,12 @@ use Rattle.permutation.specs.Table.{Table, inverted, disagreement}
 use Rattle.nominal.specs.Tree.{substitute}
 use Rattle.problem.specs.Problem.{Form, unit-form, atom-form, abstraction-form, pair-form, application-form, suspension-form}
 use Rattle.run.specs.Meaning.{Side, sideTree, Binding, meaning, occursIn}
-use Rattle.run.specs.Run.{Ground, of-variable, of-side, top, under, resolved, clash, inside, protection, Step, refuses, goes-on, done, bound, oneVariable, twoVariables, abstractions, rule, step}
+use Rattle.run.specs.Run.{Ground, of-variable, of-side, top, under, resolved, clash, inside, protection, Step, refuses, goes-on, done, bound, oneVariable}
+use Rattle.run.specs.Run.{twoVariables, abstractions, fitting, rule, step}
+use Rattle.run.specs.Tops.{Tops, two-suspensions, left-suspension, right-suspension, two-atoms, two-abstractions, two-applications}
 use Rattle.run.proofs.Trees.{underSwap}
-
--- Which of the six forms a top has, counted as the trees' forms are.
-abbrev pub kind : Form Table Side → ℕ
-kind unit-form = 0
-kind (atom-form a) = 1
-kind (abstraction-form a s) = 2
-kind (pair-form l r) = 3
-kind (application-form f s) = 4
-kind (suspension-form P X) = 5
+use Rattle.run.proofs.Tops.{kind, View, of-suspensions, on-the-left, on-the-right, of-units, of-atoms, of-abstractions, of-pairs, of-applications}
+use Rattle.run.proofs.Tops.{of-different, view}
 
 -- A top is a suspension, or it is not.
 pub data Root : Form Table Side → Type 0 where
@@ -52,20 +47,26 @@ pub data Did (g : Ground) (bs : List Binding) (s t : Side) : Form Table Side →
   two-units : Did g bs s t unit-form unit-form done
   same-atoms : {a : ℕ} → Did g bs s t (atom-form a) (atom-form a) done
   same-abstractions : {a : ℕ} {u v : Side} → Did g bs s t (abstraction-form a u) (abstraction-form a v) (goes-on ((u, v) ∷ []) [] [])
-  other-abstractions : {a b : ℕ} {u v : Side} → a ≢ b → Did g bs s t (abstraction-form a u) (abstraction-form b v) (goes-on ((u, underSwap a b v) ∷ []) [] ((a, of-side v) ∷ []))
+  other-abstractions : {a b : ℕ} {u v : Side} → a ≢ b
+      → Did g bs s t (abstraction-form a u) (abstraction-form b v) (goes-on ((u, underSwap a b v) ∷ []) [] ((a, of-side v) ∷ []))
   two-pairs : {l r v w : Side} → Did g bs s t (pair-form l r) (pair-form v w) (goes-on ((l, v) ∷ (r, w) ∷ []) [] [])
   same-symbols : {f : ℕ} {u v : Side} → Did g bs s t (application-form f u) (application-form f v) (goes-on ((u, v) ∷ []) [] [])
-  one-variable : {P Q : Table} {X : ℕ} → Did g bs s t (suspension-form P X) (suspension-form Q X) (goes-on [] [] (map (λ a. (a, of-variable X)) (disagreement P Q)))
+  one-variable : {P Q : Table} {X : ℕ}
+      → Did g bs s t (suspension-form P X) (suspension-form Q X) (goes-on [] [] (map (λ a. (a, of-variable X)) (disagreement P Q)))
   left-bound : {P : Table} {X : ℕ} {w : Form Table Side} → NotOf X w → g .protected X ≡ false → occursSide g bs X t ≡ false
       → Did g bs s t (suspension-form P X) w (goes-on [] ((X, under (inverted P) t) ∷ []) [])
-  right-bound : {v : Form Table Side} {Q : Table} {Y : ℕ} → NotOf Y v → ((P : Table) (X : ℕ) → v ≡ suspension-form P X → g .protected X ≡ true) → g .protected Y ≡ false
+  right-bound : {v : Form Table Side} {Q : Table} {Y : ℕ} → NotOf Y v → ((P : Table) (X : ℕ) → v ≡ suspension-form P X → g .protected X ≡ true)
+      → g .protected Y ≡ false
       → occursSide g bs Y s ≡ false → Did g bs s t v (suspension-form Q Y) (goes-on [] ((Y, under (inverted Q) s) ∷ []) [])
-  left-inside : {P : Table} {X : ℕ} {w : Form Table Side} → NotOf X w → g .protected X ≡ false → occursSide g bs X t ≡ true → Did g bs s t (suspension-form P X) w (refuses inside)
-  right-inside : {v : Form Table Side} {Q : Table} {Y : ℕ} → NotOf Y v → ((P : Table) (X : ℕ) → v ≡ suspension-form P X → g .protected X ≡ true) → g .protected Y ≡ false
+  left-inside : {P : Table} {X : ℕ} {w : Form Table Side} → NotOf X w → g .protected X ≡ false → occursSide g bs X t ≡ true
+      → Did g bs s t (suspension-form P X) w (refuses inside)
+  right-inside : {v : Form Table Side} {Q : Table} {Y : ℕ} → NotOf Y v → ((P : Table) (X : ℕ) → v ≡ suspension-form P X → g .protected X ≡ true)
+      → g .protected Y ≡ false
       → occursSide g bs Y s ≡ true → Did g bs s t v (suspension-form Q Y) (refuses inside)
   left-protected : {P : Table} {X : ℕ} {w : Form Table Side} → kind w ≢ 5 → g .protected X ≡ true → Did g bs s t (suspension-form P X) w (refuses protection)
   right-protected : {v : Form Table Side} {Q : Table} {Y : ℕ} → kind v ≢ 5 → g .protected Y ≡ true → Did g bs s t v (suspension-form Q Y) (refuses protection)
-  both-protected : {P Q : Table} {X Y : ℕ} → X ≢ Y → g .protected X ≡ true → g .protected Y ≡ true → Did g bs s t (suspension-form P X) (suspension-form Q Y) (refuses protection)
+  both-protected : {P Q : Table} {X Y : ℕ} → X ≢ Y → g .protected X ≡ true → g .protected Y ≡ true
+      → Did g bs s t (suspension-form P X) (suspension-form Q Y) (refuses protection)
   different-forms : {v w : Form Table Side} → kind v ≢ 5 → kind w ≢ 5 → kind v ≢ kind w → Did g bs s t v w (refuses clash)
   different-atoms : {a b : ℕ} → a ≢ b → Did g bs s t (atom-form a) (atom-form b) (refuses clash)
   different-symbols : {f h : ℕ} {u v : Side} → f ≢ h → Did g bs s t (application-form f u) (application-form h v) (refuses clash)
@@ -90,14 +91,16 @@ module _ (g : Ground) (bs : List Binding) (s t : Side) where
   unfolding oneVariable
   left-did P X w n = either (Did g bs s t (suspension-form P X) w) (g .protected X) _ _ (left-protected n) (left-one P X w (not-of X w n))
 
-  right-one : (v : Form Table Side) (Q : Table) (Y : ℕ) → NotOf Y v → ((P : Table) (X : ℕ) → v ≡ suspension-form P X → g .protected X ≡ true) → g .protected Y ≡ false
+  right-one : (v : Form Table Side) (Q : Table) (Y : ℕ) → NotOf Y v → ((P : Table) (X : ℕ) → v ≡ suspension-form P X → g .protected X ≡ true)
+      → g .protected Y ≡ false
       → Did g bs s t v (suspension-form Q Y) (bound g bs Q Y s)
   unfolding bound
   right-one v Q Y n m p = either (Did g bs s t v (suspension-form Q Y)) (occursSide g bs Y s) _ _ (right-inside n m p) (right-bound n m p)
 
   right-did : (v : Form Table Side) (Q : Table) (Y : ℕ) → kind v ≢ 5 → Did g bs s t v (suspension-form Q Y) (oneVariable g bs Q Y s)
   unfolding oneVariable
-  right-did v Q Y n = either (Did g bs s t v (suspension-form Q Y)) (g .protected Y) _ _ (right-protected n) (right-one v Q Y (not-of Y v n) (no-variable g v n))
+  right-did v Q Y n =
+      either (Did g bs s t v (suspension-form Q Y)) (g .protected Y) _ _ (right-protected n) (right-one v Q Y (not-of Y v n) (no-variable g v n))
 
   two-did : (P : Table) (X : ℕ) (Q : Table) (Y : ℕ) → Did g bs s t (suspension-form P X) (suspension-form Q Y) (twoVariables g bs P X s Q Y t)
   unfolding twoVariables oneVariable
@@ -113,51 +116,27 @@ module _ (g : Ground) (bs : List Binding) (s t : Side) where
   abstractions-did : (a : ℕ) (u : Side) (b : ℕ) (v : Side) → Did g bs s t (abstraction-form a u) (abstraction-form b v) (abstractions a u b v)
   unfolding abstractions
   abstractions-did a u b v =
-      either (Did g bs s t (abstraction-form a u) (abstraction-form b v)) (eqb a b) _ _ (λ e. rw (eqb-true a b e) same-abstractions) (λ e. other-abstractions (eqb-false a b e))
+      either (Did g bs s t (abstraction-form a u) (abstraction-form b v)) (eqb a b) _ _ (λ e. rw (eqb-true a b e) same-abstractions)
+      (λ e. other-abstractions (eqb-false a b e))
 
-  clashing : (v w : Form Table Side) → kind v < 5 → kind w < 5 → kind v ≢ kind w → Did g bs s t v w (refuses clash)
-  clashing v w h k n = different-forms {v = v} {w = w} (λ e. omega arith) (λ e. omega arith) n
+  fitting-did : {v w : Form Table Side} {x : Tops Table Side} → View v w x → Did g bs s t v w (fitting g bs s t x)
+  fitting-did {x = two-suspensions P X Q Y} of-suspensions = two-did P X Q Y
+  fitting-did {w = w} {x = left-suspension P X} (on-the-left n) = left-did P X w n
+  fitting-did {v = v} {x = right-suspension Q Y} (on-the-right n) = right-did v Q Y n
+  fitting-did of-units = two-units
+  fitting-did {x = two-atoms a b} of-atoms =
+      either (Did g bs s t (atom-form a) (atom-form b)) (eqb a b) _ _ (λ e. rw (eqb-true a b e) same-atoms) (λ e. different-atoms (eqb-false a b e))
+  fitting-did {x = two-abstractions a u b v} of-abstractions = abstractions-did a u b v
+  fitting-did of-pairs = two-pairs
+  fitting-did {x = two-applications f u h v} of-applications =
+      either (Did g bs s t (application-form f u) (application-form h v)) (eqb f h) _ _ (λ e. rw (eqb-true f h e) same-symbols)
+      (λ e. different-symbols (eqb-false f h e))
+  fitting-did {v = v} {w = w} (of-different h k n) = different-forms {v = v} {w = w} h k n
 
   pub rule-did : (v w : Form Table Side) → Did g bs s t v w (rule g bs s t v w)
-  rule-did unit-form unit-form = two-units
-  rule-did unit-form (atom-form b) = clashing unit-form (atom-form b) (omega arith) (omega arith) (λ e. omega arith)
-  rule-did unit-form (abstraction-form b v) = clashing unit-form (abstraction-form b v) (omega arith) (omega arith) (λ e. omega arith)
-  rule-did unit-form (pair-form v w) = clashing unit-form (pair-form v w) (omega arith) (omega arith) (λ e. omega arith)
-  rule-did unit-form (application-form h v) = clashing unit-form (application-form h v) (omega arith) (omega arith) (λ e. omega arith)
-  rule-did unit-form (suspension-form Q Y) = right-did unit-form Q Y (λ e. omega arith)
-  rule-did (atom-form a) unit-form = clashing (atom-form a) unit-form (omega arith) (omega arith) (λ e. omega arith)
-  rule-did (atom-form a) (atom-form b) =
-      either (Did g bs s t (atom-form a) (atom-form b)) (eqb a b) _ _ (λ e. rw (eqb-true a b e) same-atoms) (λ e. different-atoms (eqb-false a b e))
-  rule-did (atom-form a) (abstraction-form b v) = clashing (atom-form a) (abstraction-form b v) (omega arith) (omega arith) (λ e. omega arith)
-  rule-did (atom-form a) (pair-form v w) = clashing (atom-form a) (pair-form v w) (omega arith) (omega arith) (λ e. omega arith)
-  rule-did (atom-form a) (application-form h v) = clashing (atom-form a) (application-form h v) (omega arith) (omega arith) (λ e. omega arith)
-  rule-did (atom-form a) (suspension-form Q Y) = right-did (atom-form a) Q Y (λ e. omega arith)
-  rule-did (abstraction-form a u) unit-form = clashing (abstraction-form a u) unit-form (omega arith) (omega arith) (λ e. omega arith)
-  rule-did (abstraction-form a u) (atom-form b) = clashing (abstraction-form a u) (atom-form b) (omega arith) (omega arith) (λ e. omega arith)
-  rule-did (abstraction-form a u) (abstraction-form b v) = abstractions-did a u b v
-  rule-did (abstraction-form a u) (pair-form v w) = clashing (abstraction-form a u) (pair-form v w) (omega arith) (omega arith) (λ e. omega arith)
-  rule-did (abstraction-form a u) (application-form h v) = clashing (abstraction-form a u) (application-form h v) (omega arith) (omega arith) (λ e. omega arith)
-  rule-did (abstraction-form a u) (suspension-form Q Y) = right-did (abstraction-form a u) Q Y (λ e. omega arith)
-  rule-did (pair-form l r) unit-form = clashing (pair-form l r) unit-form (omega arith) (omega arith) (λ e. omega arith)
-  rule-did (pair-form l r) (atom-form b) = clashing (pair-form l r) (atom-form b) (omega arith) (omega arith) (λ e. omega arith)
-  rule-did (pair-form l r) (abstraction-form b v) = clashing (pair-form l r) (abstraction-form b v) (omega arith) (omega arith) (λ e. omega arith)
-  rule-did (pair-form l r) (pair-form v w) = two-pairs
-  rule-did (pair-form l r) (application-form h v) = clashing (pair-form l r) (application-form h v) (omega arith) (omega arith) (λ e. omega arith)
-  rule-did (pair-form l r) (suspension-form Q Y) = right-did (pair-form l r) Q Y (λ e. omega arith)
-  rule-did (application-form f u) unit-form = clashing (application-form f u) unit-form (omega arith) (omega arith) (λ e. omega arith)
-  rule-did (application-form f u) (atom-form b) = clashing (application-form f u) (atom-form b) (omega arith) (omega arith) (λ e. omega arith)
-  rule-did (application-form f u) (abstraction-form b v) = clashing (application-form f u) (abstraction-form b v) (omega arith) (omega arith) (λ e. omega arith)
-  rule-did (application-form f u) (pair-form v w) = clashing (application-form f u) (pair-form v w) (omega arith) (omega arith) (λ e. omega arith)
-  rule-did (application-form f u) (application-form h v) =
-      either (Did g bs s t (application-form f u) (application-form h v)) (eqb f h) _ _ (λ e. rw (eqb-true f h e) same-symbols) (λ e. different-symbols (eqb-false f h e))
-  rule-did (application-form f u) (suspension-form Q Y) = right-did (application-form f u) Q Y (λ e. omega arith)
-  rule-did (suspension-form P X) unit-form = left-did P X unit-form (λ e. omega arith)
-  rule-did (suspension-form P X) (atom-form b) = left-did P X (atom-form b) (λ e. omega arith)
-  rule-did (suspension-form P X) (abstraction-form b v) = left-did P X (abstraction-form b v) (λ e. omega arith)
-  rule-did (suspension-form P X) (pair-form v w) = left-did P X (pair-form v w) (λ e. omega arith)
-  rule-did (suspension-form P X) (application-form h v) = left-did P X (application-form h v) (λ e. omega arith)
-  rule-did (suspension-form P X) (suspension-form Q Y) = two-did P X Q Y
+  rule-did v w = fitting-did (view v w)
 
-pub step-did : (g : Ground) (bs : List Binding) (l r : Side) → Did g bs (resolved g bs l) (resolved g bs r) (top g (resolved g bs l)) (top g (resolved g bs r)) (step g bs l r)
+pub step-did : (g : Ground) (bs : List Binding) (l r : Side)
+    → Did g bs (resolved g bs l) (resolved g bs r) (top g (resolved g bs l)) (top g (resolved g bs r)) (step g bs l r)
 unfolding step
 step-did g bs l r = rule-did g bs (resolved g bs l) (resolved g bs r) (top g (resolved g bs l)) (top g (resolved g bs r))

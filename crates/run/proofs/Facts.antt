@@ -56,7 +56,8 @@ allAmong-true given (f ∷ fs) = (
 
 -- Those of a list that are given.
 module _ (given : List Fact) where
-  among-step : (f h : Fact) (l : List Fact) (b : Bool) → ((b ≡ true) ↔ List·Memᴰ h given) → (List·Memᴰ f (factsAmong given l) ↔ (List·Memᴰ f l × List·Memᴰ f given))
+  among-step : (f h : Fact) (l : List Fact) (b : Bool) → ((b ≡ true) ↔ List·Memᴰ h given)
+      → (List·Memᴰ f (factsAmong given l) ↔ (List·Memᴰ f l × List·Memᴰ f given))
       → List·Memᴰ f (cond b (h ∷ factsAmong given l) (factsAmong given l)) ↔ (List·Memᴰ f (h ∷ l) × List·Memᴰ f given)
   among-step f h l true t ih = (there, back)
     where
@@ -85,24 +86,29 @@ mem-row : (f : Fact) (X : ℕ) (l : List ℕ) → List·Memᴰ f (map (λ a. (a,
 mem-row f X [] = (λ m. absurd (elim m [ ]), λ k. absurd (elim (k .0) [ ]))
 mem-row f X (a ∷ l) = (there (mem-row f X l .0), λ k. back (mem-row f X l .1) (k .1) (k .0))
   where
-    there : (List·Memᴰ f (map (λ a. (a, X)) l) → List·Memᴰ (f .0) l × (f .1 ≡ X)) → List·Memᴰ f ((a, X) ∷ map (λ a. (a, X)) l) → List·Memᴰ (f .0) (a ∷ l) × (f .1 ≡ X)
+    there : (List·Memᴰ f (map (λ a. (a, X)) l) → List·Memᴰ (f .0) l × (f .1 ≡ X)) → List·Memᴰ f ((a, X) ∷ map (λ a. (a, X)) l)
+        → List·Memᴰ (f .0) (a ∷ l) × (f .1 ≡ X)
     there ih (List·Memᴰ·head p) = (List·Memᴰ·head (ap (λ (f : Fact). f .0) p), ap (λ (f : Fact). f .1) p)
     there ih (List·Memᴰ·tail m) = let k = ih m in (List·Memᴰ·tail (k .0), k .1)
 
-    back : (List·Memᴰ (f .0) l × (f .1 ≡ X) → List·Memᴰ f (map (λ a. (a, X)) l)) → f .1 ≡ X → List·Memᴰ (f .0) (a ∷ l) → List·Memᴰ f ((a, X) ∷ map (λ a. (a, X)) l)
+    back : (List·Memᴰ (f .0) l × (f .1 ≡ X) → List·Memᴰ f (map (λ a. (a, X)) l)) → f .1 ≡ X → List·Memᴰ (f .0) (a ∷ l)
+        → List·Memᴰ f ((a, X) ∷ map (λ a. (a, X)) l)
     back ih q (List·Memᴰ·head p) = let e : _≡_ {A = Fact} (f .0, f .1) (a, X) = rw (p, q) in List·Memᴰ·head e
     back ih q (List·Memᴰ·tail m) = List·Memᴰ·tail (ih (m, q))
 
 mem-allFacts : (atoms : ℕ) (f : Fact) (Xs : List ℕ) → List·Memᴰ f (allFacts atoms Xs) ↔ ((f .0 < atoms) × List·Memᴰ (f .1) Xs)
 mem-allFacts atoms f [] = (λ m. absurd (elim m [ ]), λ k. absurd (elim (k .1) [ ]))
-mem-allFacts atoms f (X ∷ Xs) = (λ m. there (mem-allFacts atoms f Xs .0) (List·Memᴰ·append-cases (map (λ a. (a, X)) (upto atoms)) m), λ k. back (mem-allFacts atoms f Xs .1) (k .0) (k .1))
+mem-allFacts atoms f (X ∷ Xs) =
+    (λ m. there (mem-allFacts atoms f Xs .0) (List·Memᴰ·append-cases (map (λ a. (a, X)) (upto atoms)) m), λ k. back (mem-allFacts atoms f Xs .1) (k .0) (k .1))
   where
-    there : (List·Memᴰ f (allFacts atoms Xs) → (f .0 < atoms) × List·Memᴰ (f .1) Xs) → List·Memᴰ f (map (λ a. (a, X)) (upto atoms)) ⊎ List·Memᴰ f (allFacts atoms Xs)
+    there : (List·Memᴰ f (allFacts atoms Xs) → (f .0 < atoms) × List·Memᴰ (f .1) Xs)
+        → List·Memᴰ f (map (λ a. (a, X)) (upto atoms)) ⊎ List·Memᴰ f (allFacts atoms Xs)
         → (f .0 < atoms) × List·Memᴰ (f .1) (X ∷ Xs)
     there ih (inl m) = let k = mem-row f X (upto atoms) .0 m in (mem-upto atoms (f .0) .1 (k .0), List·Memᴰ·head (k .1))
     there ih (inr m) = let k = ih m in (k .0, List·Memᴰ·tail (k .1))
 
-    back : ((f .0 < atoms) × List·Memᴰ (f .1) Xs → List·Memᴰ f (allFacts atoms Xs)) → f .0 < atoms → List·Memᴰ (f .1) (X ∷ Xs) → List·Memᴰ f (allFacts atoms (X ∷ Xs))
+    back : ((f .0 < atoms) × List·Memᴰ (f .1) Xs → List·Memᴰ f (allFacts atoms Xs)) → f .0 < atoms → List·Memᴰ (f .1) (X ∷ Xs)
+        → List·Memᴰ f (allFacts atoms (X ∷ Xs))
     back ih h (List·Memᴰ·head p) = Memᴰ·append-left (allFacts atoms Xs) (mem-row f X (upto atoms) .1 (mem-upto atoms (f .0) .0 h, p))
     back ih h (List·Memᴰ·tail m) = Memᴰ·append-right (map (λ a. (a, X)) (upto atoms)) (ih (h, m))
 
@@ -119,7 +125,8 @@ mem-facts p given f = (
 )
 
 -- So what holds of each given fact holds of each of the answer's, and the other way round.
-pub every-facts : (p : Problem) (R : Fact → Type 0) (given : List Fact) → Every (NamedFact (p .atoms) (p .variables)) given → Every R given ↔ Every R (facts p given)
+pub every-facts : (p : Problem) (R : Fact → Type 0) (given : List Fact) → Every (NamedFact (p .atoms) (p .variables)) given
+    → Every R given ↔ Every R (facts p given)
 every-facts p R given n = (
   λ h. every-of R (facts p given) (λ f m. every-at R (mem-facts p given f .0 m .1) h),
   λ h. every-of R given (λ f m. every-at R (mem-facts p given f .1 (every-at (NamedFact (p .atoms) (p .variables)) m n, m)) h),

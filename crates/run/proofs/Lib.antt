@@ -2,6 +2,7 @@ pub mod Table
 pub mod Limit
 pub mod Same
 pub mod Trees
+pub mod Tops
 pub mod Did
 pub mod Bindings
 pub mod Questions

@@ -2,7 +2,7 @@
 use Prim.Native.Nat.{ℕ, zero, suc, _+_, _-_, _≤_}
 use native.Mathlib.Nat.{zero-add, suc-add}
 use native.Mathlib.Omega.{arith}
-use mathlib.Core.Path.{_≡_, refl, ap, _∙_}
+use mathlib.Core.Path.{_≡_, refl}
 use mathlib.Core.List.{List, [], _∷_, _++_}
 use Rattle.run.specs.Meaning.{Binding}
 use Rattle.run.specs.Run.{Equation, Demand, Ground, Step, refuses, goes-on, step, pending, bindings, demands, End, limit, refused, finished, next, run}
@@ -34,7 +34,8 @@ next-longer j n es bs ds short long same (refuses r) h = refl
 next-longer j n es bs ds short long same (goes-on qs b d) h = same (pending n qs ++ es) (bs ++ bindings n b) (ds ++ demands n d) h
 
 module _ (g : Ground) (j : ℕ) where
-  pub run-longer : (k : ℕ) (es : List Equation) (bs : List Binding) (ds : List Demand) → Ends (run g k es bs ds) → run g (k + j) es bs ds ≡ longer j (run g k es bs ds)
+  pub run-longer : (k : ℕ) (es : List Equation) (bs : List Binding) (ds : List Demand) → Ends (run g k es bs ds)
+      → run g (k + j) es bs ds ≡ longer j (run g k es bs ds)
   unfolding run
   run-longer zero [] bs ds h = rw zero-add (none j)
     where

@@ -8,7 +8,8 @@ use mathlib.Core.Option.{Option, none, some}
 use lib.Dec.{T, eqb}
 use borrow.Author.Tests.{eq-eqb, ne-eqb, eqb-true, eqb-false}
 use Rattle.permutation.specs.Swaps.{inverse}
-use Rattle.permutation.proofs.Swaps.{by-eq, within, within-inverse}
+use Rattle.names.proofs.Equal.{by-eq}
+use Rattle.permutation.proofs.Swaps.{within, within-inverse}
 use Rattle.nominal.specs.Tree.{Tree, unit, atom, abstraction, pair, application, suspension, Occurs, Substitution, substitute, composed}
 use Rattle.nominal.specs.Figure2.{Environment, #-unit}
 use Rattle.nominal.specs.Solutions.{Every, Meets, Holds}
@@ -67,7 +68,8 @@ module _ (∇ : Environment) (τ : Substitution) where
   -- A demand holds exactly if the facts that it comes down to do.
   pub freshFor-holds : (a : ℕ) (t : Tree) → Meets ∇ τ (a, t) ↔ Each (Holds ∇ τ) (freshFor a t)
   freshFor-holds a unit = (λ h. tt, λ h. #-unit)
-  freshFor-holds a (atom b) = by-eq a b (λ q. rw (eq-eqb a b q) (λ h. fresh-atom .0 h q, λ h. absurd h)) (λ n. rw (ne-eqb a b n) (λ h. tt, λ h. fresh-atom .1 n))
+  freshFor-holds a (atom b) =
+      by-eq a b (λ q. rw (eq-eqb a b q) (λ h. fresh-atom .0 h q, λ h. absurd h)) (λ n. rw (ne-eqb a b n) (λ h. tt, λ h. fresh-atom .1 n))
   freshFor-holds a (abstraction b t) =
       by-eq a b (λ q. rw (eq-eqb a b q) (λ h. tt, λ h. fresh-abstraction .1 (λ n. absurd (n q))))
       (λ n. rw (ne-eqb a b n) (λ h. freshFor-holds a t .0 (fresh-abstraction .0 h n), λ h. fresh-abstraction .1 (λ m. freshFor-holds a t .1 h)))
@@ -128,12 +130,14 @@ freshFor-named atoms variables a (atom b) h m = wherever-cond (NamedFact atoms v
 freshFor-named atoms variables a (abstraction b t) h m =
     wherever-cond (NamedFact atoms variables) (eqb a b) (some []) (freshFor a t) tt (freshFor-named atoms variables a t h (m .1))
 freshFor-named atoms variables a (pair s t) h m =
-    wherever-both (NamedFact atoms variables) (freshFor a s) (freshFor a t) (freshFor-named atoms variables a s h (m .0)) (freshFor-named atoms variables a t h (m .1))
+    wherever-both (NamedFact atoms variables) (freshFor a s) (freshFor a t) (freshFor-named atoms variables a s h (m .0))
+    (freshFor-named atoms variables a t h (m .1))
 freshFor-named atoms variables a (application f t) h m = freshFor-named atoms variables a t h m
 freshFor-named atoms variables a (suspension π X) h m = ((within atoms (inverse π) a (within-inverse atoms π (m .1)) h, m .0), tt)
 
 -- So it is of all demands: what holds of the facts of each holds of the facts of all.
-pub resolvedAll-wherever : (R : Fact → Type 0) (σ : Substitution) (ds : List Asked) → Every (λ d. Wherever R (freshFor (d .0) (substitute σ (d .1)))) ds → Wherever R (resolvedAll σ ds)
+pub resolvedAll-wherever : (R : Fact → Type 0) (σ : Substitution) (ds : List Asked) → Every (λ d. Wherever R (freshFor (d .0) (substitute σ (d .1)))) ds
+    → Wherever R (resolvedAll σ ds)
 unfolding resolvedAll
 resolvedAll-wherever R σ [] h = tt
 resolvedAll-wherever R σ (d ∷ ds) h = wherever-both R (freshFor (d .0) (substitute σ (d .1))) (resolvedAll σ ds) (h .0) (resolvedAll-wherever R σ ds (h .1))

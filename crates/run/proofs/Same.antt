@@ -58,7 +58,8 @@ same-permuted π same-atom = same-atom
 same-permuted π (same-abstraction e) = same-abstraction (same-permuted π e)
 same-permuted π (same-pair e k) = same-pair (same-permuted π e) (same-permuted π k)
 same-permuted π (same-application e) = same-application (same-permuted π e)
-same-permuted π (same-suspension {π = κ} {ρ = ρ} h) = same-suspension {π = π ++ κ} {ρ = π ++ ρ} (λ a. act-append π κ a ∙ (ap (act π) (h a) ∙ sym (act-append π ρ a)))
+same-permuted π (same-suspension {π = κ} {ρ = ρ} h) =
+    same-suspension {π = π ++ κ} {ρ = π ++ ρ} (λ a. act-append π κ a ∙ (ap (act π) (h a) ∙ sym (act-append π ρ a)))
 
 -- And so it is under substitution, also by substitutions that are the same on every variable.
 pub same-substitute : (σ : Substitution) {s t : Tree} → Same s t → Same (substitute σ s) (substitute σ t)

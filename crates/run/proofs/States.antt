@@ -14,10 +14,13 @@ use Rattle.nominal.proofs.Tree.{occurs-permute, substitute-permute}
 use Rattle.problem.specs.Problem.{Form, Node, formAt, Equal, Problem}
 use Rattle.problem.specs.Readable.{Named, Readable}
 use Rattle.run.specs.Meaning.{Side, sideTree, Binding, meaningAfter, meaning}
-use Rattle.run.specs.Run.{Equation, Subject, of-variable, of-side, Demand, Ground, top, valueOf, under, resolved, Step, refuses, goes-on, step, End, limit, refused, finished, pending, bindings, demands, next, run, equationsFrom}
+use Rattle.run.specs.Run.{Equation, Subject, of-variable, of-side, Demand, Ground, top, valueOf, under, resolved, Step, refuses, goes-on, step, End}
+use Rattle.run.specs.Run.{limit, refused, finished, pending, bindings, demands, next, run, equationsFrom}
 use Rattle.run.proofs.Same.{same-occurs, same-substitute}
 use Rattle.run.proofs.Trees.{Permuting, Fits, permuting-inverted, fits-under, fits-underSwap, fits-plain, tree-under-inverted, TopFits, top-fits}
-use Rattle.run.proofs.Did.{Did, step-did, occursSide, two-units, same-atoms, same-abstractions, other-abstractions, two-pairs, same-symbols, one-variable, left-bound, right-bound, left-inside, right-inside, left-protected, right-protected, both-protected, different-forms, different-atoms, different-symbols}
+use Rattle.run.proofs.Did.{Did, step-did, occursSide, two-units, same-atoms, same-abstractions, other-abstractions, two-pairs, same-symbols}
+use Rattle.run.proofs.Did.{one-variable, left-bound, right-bound, left-inside, right-inside, left-protected, right-protected, both-protected}
+use Rattle.run.proofs.Did.{different-forms, different-atoms, different-symbols}
 use Rattle.run.proofs.Questions.{occursIn-false}
 use Rattle.run.proofs.Bindings.{valueOf-other, Settled, Meant, Sound, top-under, resolved-fits, meant-more, meaning-more, meant-none}
 
@@ -47,7 +50,8 @@ module _ (g : Ground) (variables : ℕ) (named : (n : ℕ) → Named (g .atoms) 
 
   module _ {bs : List Binding} (m : Meant g variables bs (meaning (g .nodes) bs)) where
     -- X becomes the inverse of P applied to the resolved side t.
-    bound-sound : (P : Table) (X : ℕ) (t : Side) → Permuting (g .atoms) P → X < variables → valueOf bs X ≡ none → Fits (g .atoms) (g .nodes) t → Settled bs (top g t)
+    bound-sound : (P : Table) (X : ℕ) (t : Side) → Permuting (g .atoms) P → X < variables → valueOf bs X ≡ none → Fits (g .atoms) (g .nodes) t
+        → Settled bs (top g t)
         → occursSide g bs X t ≡ false → Sound g variables named bs (meaning (g .nodes) bs) X (under (inverted P) t)
     bound-sound P X t p l free f s o = record {
       unbound = free;
@@ -58,8 +62,10 @@ module _ (g : Ground) (variables : ℕ) (named : (n : ℕ) → Named (g .atoms) 
       settled = λ Q Z e. let k = top-under g (inverted P) t Q Z e in s (k .0) Z (k .1);
     }
 
-    did-keeps : (s t : Side) → Fits (g .atoms) (g .nodes) s → Fits (g .atoms) (g .nodes) t → Settled bs (top g s) → Settled bs (top g t) → {v w : Form Table Side} {x : Step}
-        → Did g bs s t v w x → TopFits (g .atoms) variables (g .nodes) (s .node) v → TopFits (g .atoms) variables (g .nodes) (t .node) w → Settled bs v → Settled bs w → Keeps bs x
+    did-keeps : (s t : Side) → Fits (g .atoms) (g .nodes) s → Fits (g .atoms) (g .nodes) t → Settled bs (top g s) → Settled bs (top g t)
+        → {v w : Form Table Side} {x : Step}
+        → Did g bs s t v w x → TopFits (g .atoms) variables (g .nodes) (s .node) v → TopFits (g .atoms) variables (g .nodes) (t .node) w → Settled bs v
+        → Settled bs w → Keeps bs x
     did-keeps s t f h p q two-units i j a b = (tt, tt, tt)
     did-keeps s t f h p q same-atoms i j a b = (tt, tt, tt)
     did-keeps s t f h p q same-abstractions i j a b = (((i .1, j .1), tt), tt, tt)
@@ -89,7 +95,8 @@ module _ (g : Ground) (variables : ℕ) (named : (n : ℕ) → Named (g .atoms) 
         let t : Side = resolved g bs r in
         let i : Fits (g .atoms) (g .nodes) s = resolved-fits g variables named m l f in
         let j : Fits (g .atoms) (g .nodes) t = resolved-fits g variables named m r h in
-        did-keeps s t i j (m .settles l) (m .settles r) (step-did g bs l r) (top-fits g variables named s i) (top-fits g variables named t j) (m .settles l) (m .settles r)
+        did-keeps s t i j (m .settles l) (m .settles r) (step-did g bs l r) (top-fits g variables named s i) (top-fits g variables named t j) (m .settles l)
+        (m .settles r)
 
   -- A state of the run of which all this holds.
   pub record State (es : List Equation) (bs : List Binding) (ds : List Demand) : Type 1 where
@@ -108,22 +115,27 @@ module _ (g : Ground) (variables : ℕ) (named : (n : ℕ) → Named (g .atoms) 
   pub meant-next : (n : ℕ) (bs : List Binding) (b : List (ℕ × Side)) → Meant g variables bs (meaning (g .nodes) bs) → SoundNew bs b
       → Meant g variables (bs ++ bindings n b) (meaning (g .nodes) (bs ++ bindings n b))
   meant-next n bs [] m s = rw append-nil m
-  meant-next n bs (b ∷ []) m s = rw (meaning-more (g .nodes) bs (record { variable = b .0; value = b .1; equation = n })) (meant-more g variables named m (record { variable = b .0; value = b .1; equation = n }) (s .0))
+  meant-next n bs (b ∷ []) m s =
+      rw (meaning-more (g .nodes) bs (record { variable = b .0; value = b .1; equation = n }))
+      (meant-more g variables named m (record { variable = b .0; value = b .1; equation = n }) (s .0))
   meant-next n bs (b ∷ c ∷ l) m s = absurd s
 
   -- The next state.
-  pub state-next : (e : Equation) (es : List Equation) (bs : List Binding) (ds : List Demand) (qs : List (Side × Side)) (b : List (ℕ × Side)) (d : List (ℕ × Subject))
+  pub state-next : (e : Equation) (es : List Equation) (bs : List Binding) (ds : List Demand) (qs : List (Side × Side)) (b : List (ℕ × Side))
+      (d : List (ℕ × Subject))
       → State (e ∷ es) bs ds → step g bs (e .left) (e .right) ≡ goes-on qs b d
       → State (pending (e .number) qs ++ es) (bs ++ bindings (e .number) b) (ds ++ demands (e .number) d)
   state-next e es bs ds qs b d s q =
       let k : Keeps bs (goes-on qs b d) = rw q at (step-keeps (s .meant) (e .left) (e .right) (s .waiting .0 .0) (s .waiting .0 .1)) in record {
-        waiting = every-append (λ e. BothFit g variables (e .left, e .right)) (pending (e .number) qs) es .1 (pending-fits (e .number) qs (k .0), s .waiting .1);
+        waiting =
+            every-append (λ e. BothFit g variables (e .left, e .right)) (pending (e .number) qs) es .1 (pending-fits (e .number) qs (k .0), s .waiting .1);
         meant = meant-next (e .number) bs b (s .meant) (k .1);
         raised = every-append (λ d. DemandFits g variables (d .atom, d .subject)) ds (demands (e .number) d) .1 (s .raised, demands-fit (e .number) d (k .2));
       }
 
   -- Protected variables that are unbound stay unbound.
-  pub unbound-next : (n : ℕ) (bs : List Binding) (b : List (ℕ × Side)) → SoundNew bs b → (X : ℕ) → g .protected X ≡ true → valueOf bs X ≡ none → valueOf (bs ++ bindings n b) X ≡ none
+  pub unbound-next : (n : ℕ) (bs : List Binding) (b : List (ℕ × Side)) → SoundNew bs b → (X : ℕ) → g .protected X ≡ true → valueOf bs X ≡ none
+      → valueOf (bs ++ bindings n b) X ≡ none
   unbound-next n bs [] s X p e = rw append-nil e
   unbound-next n bs (b ∷ []) s X p e =
       valueOf-other bs (record { variable = b .0; value = b .1; equation = n }) X (λ q. true≢false (sym p ∙ ap (g .protected) q ∙ s .1)) ∙ e
@@ -137,24 +149,30 @@ AtEnd R (finished k bs ds) = R [] bs ds
 
 module _ (g : Ground) (R : List Equation → List Binding → List Demand → Type 1)
     (once : (e : Equation) (es : List Equation) (bs : List Binding) (ds : List Demand) (qs : List (Side × Side)) (b : List (ℕ × Side)) (d : List (ℕ × Subject))
-    → R (e ∷ es) bs ds → step g bs (e .left) (e .right) ≡ goes-on qs b d → R (pending (e .number) qs ++ es) (bs ++ bindings (e .number) b) (ds ++ demands (e .number) d)) where
-  next-end : (onward : List Equation → List Binding → List Demand → End) → ((es : List Equation) (bs : List Binding) (ds : List Demand) → R es bs ds → AtEnd R (onward es bs ds))
-      → (e : Equation) (es : List Equation) (bs : List Binding) (ds : List Demand) → R (e ∷ es) bs ds → (x : Step) → step g bs (e .left) (e .right) ≡ x → AtEnd R (next onward (e .number) es bs ds x)
+    → R (e ∷ es) bs ds → step g bs (e .left) (e .right) ≡ goes-on qs b d
+    → R (pending (e .number) qs ++ es) (bs ++ bindings (e .number) b) (ds ++ demands (e .number) d)) where
+  next-end : (onward : List Equation → List Binding → List Demand → End)
+      → ((es : List Equation) (bs : List Binding) (ds : List Demand) → R es bs ds → AtEnd R (onward es bs ds))
+      → (e : Equation) (es : List Equation) (bs : List Binding) (ds : List Demand) → R (e ∷ es) bs ds → (x : Step) → step g bs (e .left) (e .right) ≡ x
+      → AtEnd R (next onward (e .number) es bs ds x)
   next-end onward ih e es bs ds r (refuses n) q = tt
-  next-end onward ih e es bs ds r (goes-on qs b d) q = ih (pending (e .number) qs ++ es) (bs ++ bindings (e .number) b) (ds ++ demands (e .number) d) (once e es bs ds qs b d r q)
+  next-end onward ih e es bs ds r (goes-on qs b d) q =
+      ih (pending (e .number) qs ++ es) (bs ++ bindings (e .number) b) (ds ++ demands (e .number) d) (once e es bs ds qs b d r q)
 
   pub run-end : (k : ℕ) (es : List Equation) (bs : List Binding) (ds : List Demand) → R es bs ds → AtEnd R (run g k es bs ds)
   unfolding run
   run-end zero [] bs ds r = r
   run-end zero (e ∷ es) bs ds r = tt
   run-end (suc k) [] bs ds r = r
-  run-end (suc k) (e ∷ es) bs ds r = next-end (λ es′ bs′ ds′. run g k es′ bs′ ds′) (λ es′ bs′ ds′ q. run-end k es′ bs′ ds′ q) e es bs ds r (step g bs (e .left) (e .right)) refl
+  run-end (suc k) (e ∷ es) bs ds r =
+      next-end (λ es′ bs′ ds′. run g k es′ bs′ ds′) (λ es′ bs′ ds′ q. run-end k es′ bs′ ds′ q) e es bs ds r (step g bs (e .left) (e .right)) refl
 
 -- Where a run of a readable problem starts, whichever variables are protected.
 abbrev pub groundWith : Problem → (ℕ → Bool) → Ground
 groundWith p isProtected = record { atoms = p .atoms; nodes = p .nodes; protected = isProtected }
 
-equations-fit : (g : Ground) (variables i : ℕ) (es : List Equal) → ((e : Equal) → List·Memᴰ e es → (e .left < length (g .nodes)) × (e .right < length (g .nodes)))
+equations-fit : (g : Ground) (variables i : ℕ) (es : List Equal)
+    → ((e : Equal) → List·Memᴰ e es → (e .left < length (g .nodes)) × (e .right < length (g .nodes)))
     → Every (λ e. BothFit g variables (e .left, e .right)) (equationsFrom (g .atoms) i es)
 equations-fit g variables i [] h = tt
 equations-fit g variables i (e ∷ es) h =
@@ -165,7 +183,8 @@ pub meaning-none : (nodes : List Node) → meaning nodes [] ≡ variable
 unfolding meaning meaningAfter
 meaning-none nodes = refl
 
-pub start : (p : Problem) (r : Readable p) (isProtected : ℕ → Bool) → State (groundWith p isProtected) (p .variables) (r .named-nodes) (equationsFrom (p .atoms) 0 (p .equations)) [] []
+pub start : (p : Problem) (r : Readable p) (isProtected : ℕ → Bool)
+    → State (groundWith p isProtected) (p .variables) (r .named-nodes) (equationsFrom (p .atoms) 0 (p .equations)) [] []
 start p r isProtected = record {
   waiting = equations-fit (groundWith p isProtected) (p .variables) 0 (p .equations) (r .named-equations);
   meant = rw (meaning-none (p .nodes)) (meant-none (groundWith p isProtected) (p .variables) (r .named-nodes));

@@ -8,10 +8,58 @@ use Rattle.nominal.specs.Tree.{replacing}
 use Rattle.nominal.specs.Solutions.{Every}
 use Rattle.run.specs.Meaning.{tree, sideTree, meaningAfter, meaning}
 use Rattle.run.specs.Run.{top, resolvedIn, resolved, bound, oneVariable, twoVariables, abstractions, step, run, runOf}
-use Rattle.run.specs.Answer.{resolvedAll, facts, bindingBytes, factBytes, answerBytes, verdictOf, verdictRead, written, given, solve, judgedRun, judgementOf, judgementRead, judge}
-use Rattle.run.specs.Table.{table, Holds}
+use Rattle.run.specs.Answer.{resolvedAll, facts, bindingBytes, factBytes, answerBytes, verdictOf, verdictRead, written, given, solve, judgedRun}
+use Rattle.run.specs.Answer.{judgementOf, judgementRead, judge}
+use Rattle.run.specs.Table.{cases, CaseHolds}
 
-pub cases-hold : Every Holds table
-unfolding swapped after inverted ofSwaps swappedAfter disagreement swapsOf bodied front bytes2 bytes4 fieldBytes baseTags lengthFits item room there add fault fieldsFrom goodHead headed headField readAll reading tree sideTree replacing meaningAfter meaning top resolvedIn resolved bound oneVariable twoVariables abstractions step run runOf resolvedAll facts bindingBytes factBytes answerBytes verdictOf verdictRead written given solve judgedRun judgementOf judgementRead judge table
-cases-hold =
-    (refl, (refl, (refl, (refl, (refl, (refl, (refl, (refl, (refl, (refl, (refl, (refl, (refl, (refl, (refl, (refl, (refl, (refl, (refl, (refl, (refl, tt)))))))))))))))))))))
+pub cases-hold : Every CaseHolds cases
+unfolding swapped after inverted ofSwaps swappedAfter disagreement swapsOf bodied front bytes2 bytes4 fieldBytes baseTags lengthFits item room there add fault
+    fieldsFrom goodHead headed headField readAll reading tree sideTree replacing meaningAfter meaning top resolvedIn resolved bound oneVariable
+    twoVariables abstractions step run runOf resolvedAll facts bindingBytes factBytes answerBytes verdictOf verdictRead written given solve judgedRun
+    judgementOf judgementRead judge cases
+cases-hold = (
+  refl,
+  (
+    refl,
+    (
+      refl,
+      (
+        refl,
+        (
+          refl,
+          (
+            refl,
+            (
+              refl,
+              (
+                refl,
+                (
+                  refl,
+                  (
+                    refl,
+                    (
+                      refl,
+                      (
+                        refl,
+                        (
+                          refl,
+                          (
+                            refl,
+                            (
+                              refl,
+                              (refl, (refl, (refl, (refl, (refl, (refl, tt)))))),
+                            ),
+                          ),
+                        ),
+                      ),
+                    ),
+                  ),
+                ),
+              ),
+            ),
+          ),
+        ),
+      ),
+    ),
+  ),
+)

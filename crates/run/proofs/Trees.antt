@@ -9,7 +9,9 @@ use lib.ListN.{length, getD, length-append, List·getD-append, List·getD-eq-def
 use Rattle.permutation.specs.Swaps.{Swaps, act, inverse, Within}
 use Rattle.permutation.specs.Table.{Table, image, identity, after, inverted, ofSwaps, swappedAfter, Permutes, swapsOf}
 use Rattle.permutation.proofs.Swaps.{act-append, within, within-append}
-use Rattle.permutation.proofs.Table.{length-identity, length-after, length-inverted, length-swappedAfter, length-ofSwaps, image-after, image-ofSwaps-within, permutes-identity, permutes-ofSwaps, permutes-after, permutes-inverted, permutes-swappedAfter, act-swapsOf, swapsOf-within, swapsOf-after, swapsOf-inverted, swapsOf-swappedAfter, swapsOf-identity}
+use Rattle.permutation.proofs.Table.{length-identity, length-after, length-inverted, length-swappedAfter, length-ofSwaps, image-after, image-ofSwaps-within}
+use Rattle.permutation.proofs.Table.{permutes-identity, permutes-ofSwaps, permutes-after, permutes-inverted, permutes-swappedAfter, act-swapsOf, swapsOf-within}
+use Rattle.permutation.proofs.Table.{swapsOf-after, swapsOf-inverted, swapsOf-swappedAfter, swapsOf-identity}
 use Rattle.nominal.specs.Tree.{Tree, unit, atom, abstraction, pair, application, suspension, permute, Substitution, substitute}
 use Rattle.nominal.proofs.Tree.{permute-nil, permute-append}
 use Rattle.problem.specs.Problem.{Form, unit-form, atom-form, abstraction-form, pair-form, application-form, suspension-form, Node, formAt}
@@ -42,7 +44,8 @@ treesAfter-before ts (n ∷ nodes) i h =
 
 module _ (atoms variables : ℕ) where
   -- A form's tree depends only on the trees before it.
-  treeOf-agree : (ts us : List Tree) (k : ℕ) → ((i : ℕ) → i < k → getD ts i unit ≡ getD us i unit) → (n : Node) → Named atoms variables k n → treeOf ts n ≡ treeOf us n
+  treeOf-agree : (ts us : List Tree) (k : ℕ) → ((i : ℕ) → i < k → getD ts i unit ≡ getD us i unit) → (n : Node) → Named atoms variables k n
+      → treeOf ts n ≡ treeOf us n
   treeOf-agree ts us k h unit-form m = refl
   treeOf-agree ts us k h (atom-form a) m = refl
   treeOf-agree ts us k h (abstraction-form a n) m = ap (abstraction a) (h n (m .1))
@@ -69,7 +72,8 @@ module _ (atoms variables : ℕ) where
 
   pub tree-built : (nodes : List Node) → ((n : ℕ) → Named atoms variables n (formAt nodes n)) → (n : ℕ) → tree nodes n ≡ built nodes (formAt nodes n)
   unfolding tree
-  tree-built nodes m n = ap (λ (k : ℕ). getD (treesAfter [] nodes) k unit) (sym (zero-add n)) ∙ treesAfter-at [] nodes n (λ i. rw zero-add (m i)) ∙ by-form (formAt nodes n)
+  tree-built nodes m n =
+      ap (λ (k : ℕ). getD (treesAfter [] nodes) k unit) (sym (zero-add n)) ∙ treesAfter-at [] nodes n (λ i. rw zero-add (m i)) ∙ by-form (formAt nodes n)
     where
       by-form : (f : Node) → treeOf (treesAfter [] nodes) f ≡ built nodes f
       by-form unit-form = refl
@@ -140,7 +144,8 @@ module _ (nodes : List Node) where
   unfolding sideTree
   tree-plain atoms n = rw permute-nil at (same-permute (swapsOf (identity atoms)) [] (swapsOf-identity atoms) (tree nodes n))
 
-  pub tree-under : {atoms : ℕ} {P : Table} {s : Side} → Permuting atoms P → Fits atoms nodes s → Same (sideTree nodes (under P s)) (permute (swapsOf P) (sideTree nodes s))
+  pub tree-under : {atoms : ℕ} {P : Table} {s : Side} → Permuting atoms P → Fits atoms nodes s
+      → Same (sideTree nodes (under P s)) (permute (swapsOf P) (sideTree nodes s))
   unfolding sideTree
   tree-under {P = P} {s = s} p f =
       rw permute-append at (same-permute (swapsOf (after P (s .images))) (swapsOf P ++ swapsOf (s .images))
@@ -149,9 +154,11 @@ module _ (nodes : List Node) where
   pub tree-under-inverted : {atoms : ℕ} {P : Table} {s : Side} → Permuting atoms P → Fits atoms nodes s
       → Same (sideTree nodes (under (inverted P) s)) (permute (inverse (swapsOf P)) (sideTree nodes s))
   tree-under-inverted {P = P} {s = s} p f =
-      same-transitive (tree-under (permuting-inverted p) f) (same-permute (swapsOf (inverted P)) (inverse (swapsOf P)) (swapsOf-inverted P (p .permutes)) (sideTree nodes s))
+      same-transitive (tree-under (permuting-inverted p) f)
+      (same-permute (swapsOf (inverted P)) (inverse (swapsOf P)) (swapsOf-inverted P (p .permutes)) (sideTree nodes s))
 
-  pub tree-underSwap : {atoms : ℕ} {s : Side} (a b : ℕ) → a < atoms → b < atoms → Fits atoms nodes s → Same (sideTree nodes (underSwap a b s)) (permute ((a, b) ∷ []) (sideTree nodes s))
+  pub tree-underSwap : {atoms : ℕ} {s : Side} (a b : ℕ) → a < atoms → b < atoms → Fits atoms nodes s
+      → Same (sideTree nodes (underSwap a b s)) (permute ((a, b) ∷ []) (sideTree nodes s))
   unfolding sideTree
   tree-underSwap {s = s} a b h k f =
       rw (permute-append ((a, b) ∷ []) (swapsOf (s .images)) (tree nodes (s .node))) at
@@ -183,7 +190,8 @@ module _ (g : Ground) (variables : ℕ) (named : (n : ℕ) → Named (g .atoms) 
   unfolding top sideTree
   top-shows s p = rw (tree-built (g .atoms) variables (g .nodes) named (s .node)) (by-form (formAt (g .nodes) (s .node)) (named (s .node)))
     where
-      by-form : (f : Node) → Named (g .atoms) variables (s .node) f → Shows (g .nodes) (permute (swapsOf (s .images)) (built (g .nodes) f)) (permuted (g .atoms) (s .images) f)
+      by-form : (f : Node) → Named (g .atoms) variables (s .node) f
+          → Shows (g .nodes) (permute (swapsOf (s .images)) (built (g .nodes) f)) (permuted (g .atoms) (s .images) f)
       by-form unit-form m = refl
       by-form (atom-form a) m = ap atom (act-permuting p a)
       by-form (abstraction-form a n) m = rw (act-permuting p a)
@@ -193,7 +201,8 @@ module _ (g : Ground) (variables : ℕ) (named : (n : ℕ) → Named (g .atoms) 
         swapsOf (s .images) ++ π,
         refl,
         λ a. act-append (swapsOf (s .images)) π a ∙ act-permuting p (act π a)
-            ∙ sym (image-after (s .images) (ofSwaps (g .atoms) π) a (p .long ∙ sym (length-ofSwaps (g .atoms) π)) ∙ ap (image (s .images)) (image-ofSwaps-within (g .atoms) π a (m .1))),
+            ∙ sym (image-after (s .images) (ofSwaps (g .atoms) π) a (p .long ∙ sym (length-ofSwaps (g .atoms) π))
+            ∙ ap (image (s .images)) (image-ofSwaps-within (g .atoms) π a (m .1))),
       )
 
   pub top-fits : (s : Side) → Fits (g .atoms) (g .nodes) s → TopFits (g .atoms) variables (g .nodes) (s .node) (top g s)
@@ -231,7 +240,8 @@ module _ (atoms variables : ℕ) where
   named-permute π w (application f t) m = named-permute π w t m
   named-permute π w (suspension ρ X) m = (m .0, within-append atoms π ρ w (m .1))
 
-  pub named-substitute : (σ : Substitution) → ((X : ℕ) → X < variables → NamedTree atoms variables (σ X)) → (t : Tree) → NamedTree atoms variables t → NamedTree atoms variables (substitute σ t)
+  pub named-substitute : (σ : Substitution) → ((X : ℕ) → X < variables → NamedTree atoms variables (σ X)) → (t : Tree) → NamedTree atoms variables t
+      → NamedTree atoms variables (substitute σ t)
   named-substitute σ h unit m = tt
   named-substitute σ h (atom a) m = m
   named-substitute σ h (abstraction a t) m = (m .0, named-substitute σ h t (m .1))
@@ -240,7 +250,8 @@ module _ (atoms variables : ℕ) where
   named-substitute σ h (suspension π X) m = named-permute π (m .1) (σ X) (h X (m .0))
 
   module _ (nodes : List Node) (named : (n : ℕ) → Named atoms variables n (formAt nodes n)) where
-    named-form : (n : ℕ) → ((i : ℕ) → i < n → NamedTree atoms variables (tree nodes i)) → (f : Node) → Named atoms variables n f → NamedTree atoms variables (built nodes f)
+    named-form : (n : ℕ) → ((i : ℕ) → i < n → NamedTree atoms variables (tree nodes i)) → (f : Node) → Named atoms variables n f
+        → NamedTree atoms variables (built nodes f)
     named-form n before unit-form m = tt
     named-form n before (atom-form a) m = m
     named-form n before (abstraction-form a i) m = (m .0, before i (m .1))

@@ -8,7 +8,8 @@ use lib.ListN.{length}
 use lib.Dec.{leb}
 use Rattle.run.specs.Answer.{written}
 
-by-room : (answer output : List ℕ) (b : Bool) → leb (length answer) (length output) ≡ b → (written answer output .number ≡ 0) ⊎ (written answer output .number ≡ 13)
+by-room : (answer output : List ℕ) (b : Bool) → leb (length answer) (length output) ≡ b
+    → (written answer output .number ≡ 0) ⊎ (written answer output .number ≡ 13)
 unfolding written
 by-room answer output true e = inl (rw e)
 by-room answer output false e = inr (rw e)

@@ -1,18 +1,20 @@
 -- Document 01: what is resolved when no equation is left, the answer in bytes, the solver and the judge, from bytes to number, place and the lent
 -- output's final content. Definitions alone, in the document's order.
-use Prim.Native.Nat.{ℕ, zero, suc, _+_, _-_}
+use Prim.Native.Nat.{ℕ, _-_, _≤_}
 use mathlib.Core.Bool.{Bool, true, false, _&&_, _||_, cond}
 use mathlib.Core.List.{List, [], _∷_, _++_, map}
 use mathlib.Core.Option.{Option, none, some}
 use lib.ListN.{length, drop}
 use lib.Dec.{eqb, leb}
-use Rattle.permutation.specs.Table.{upto, identity}
+use Rattle.permutation.specs.Table.{upto}
 use Rattle.nominal.specs.Tree.{Tree, variable, Substitution, substitute}
-use Rattle.field.specs.Field.{bytes2, bytes4, fieldBytes}
+use Rattle.layout.specs.Parts as layout
+use Rattle.layout.specs.Parts.{binding, fact, partField}
 use Rattle.problem.specs.Problem.{Node, Fresh, Assumed, Problem}
 use Rattle.problem.specs.Reader.{Reading, read, reading, baseTags}
-use Rattle.run.specs.Meaning.{Side, tree, sideTree, Binding, meaning, Fact, both, freshFor}
-use Rattle.run.specs.Run.{Subject, of-variable, of-side, Demand, Ground, Refusal, clash, inside, protection, End, limit, refused, finished, run, runOf, equationsFrom}
+use Rattle.run.specs.Meaning.{tree, sideTree, Binding, meaning, Fact, both, freshFor}
+use Rattle.run.specs.Run.{Subject, of-variable, of-side, Demand, Refusal, clash, inside, protection, End, limit, refused, finished, run, runOf}
+use Rattle.run.specs.Run.{equationsFrom}
 
 -- What a demand asks: an atom is to be fresh for a tree.
 abbrev pub Asked : Type 0
@@ -58,14 +60,14 @@ facts p given = factsAmong given (allFacts (p .atoms) (upto (p .variables)))
 -- atom, variable".
 unfoldable pub bindingBytes : List Binding → List ℕ
 bindingBytes [] = []
-bindingBytes (b ∷ bs) = fieldBytes 0x40 (b .variable ∷ bytes2 (b .value .node) ++ b .value .images) ++ bindingBytes bs
+bindingBytes (b ∷ bs) = partField (binding (b .variable) (b .value .node) (b .value .images)) ++ bindingBytes bs
 
 unfoldable pub factBytes : List Fact → List ℕ
 factBytes [] = []
-factBytes (f ∷ fs) = fieldBytes 0x41 (f .0 ∷ f .1 ∷ []) ++ factBytes fs
+factBytes (f ∷ fs) = partField (fact (f .0) (f .1)) ++ factBytes fs
 
 unfoldable pub answerBytes : ℕ → List Binding → List Fact → List ℕ
-answerBytes steps bs fs = fieldBytes 0x4E (bytes4 steps) ++ bindingBytes bs ++ factBytes fs
+answerBytes steps bs fs = partField (layout.steps steps) ++ bindingBytes bs ++ factBytes fs
 
 -- What the solver finds: an answer, or a refusal by number and place.
 pub data Verdict : Type 0 where
@@ -73,10 +75,14 @@ pub data Verdict : Type 0 where
   refusal : ℕ → ℕ → Verdict
 
 -- The table's numbers for the run's own refusals.
-abbrev pub numberOf : Refusal → ℕ
-numberOf clash = 9
-numberOf inside = 10
-numberOf protection = 11
+abbrev pub refusalNumber : Refusal → ℕ
+refusalNumber clash = 9
+refusalNumber inside = 10
+refusalNumber protection = 11
+
+-- Those of the table's numbers that say that no allowed solution exists.
+abbrev pub NoSolution : ℕ → Type 0
+NoSolution n = (9 ≤ n) × (n ≤ 12)
 
 abbrev pub concluded : Problem → ℕ → List Binding → Option (List Fact) → Verdict
 concluded p k bs none = refusal 12 0
@@ -84,13 +90,13 @@ concluded p k bs (some fs) = accepted (p .limit - k) bs (facts p fs)
 
 unfoldable pub verdictOf : Problem → End → Verdict
 verdictOf p (limit n) = refusal 8 n
-verdictOf p (refused r n) = refusal (numberOf r) n
+verdictOf p (refused r n) = refusal (refusalNumber r) n
 verdictOf p (finished k bs ds) =
     concluded p k bs (resolvedAll (meaning (p .nodes) bs) (askedFresh (p .nodes) (p .freshness) ++ askedAssumed (p .assumptions) ++ askedRaised (p .nodes) ds))
 
 unfoldable pub verdictRead : Reading → Verdict
 verdictRead (read p) = verdictOf p (runOf p)
-verdictRead (Rattle.problem.specs.Reader.refused n o) = refusal n o
+verdictRead (Rattle.problem.specs.Reader.unreadable n o) = refusal n o
 
 -- The number and place given back, and what the lent output holds in the end.
 pub record Result : Type 0 where
@@ -142,7 +148,7 @@ judgementOf p (finished k bs ds) =
 
 unfoldable pub judgementRead : Reading → Judgement
 judgementRead (read p) = judgementOf p (judgedRun p)
-judgementRead (Rattle.problem.specs.Reader.refused n o) = (n, o)
+judgementRead (Rattle.problem.specs.Reader.unreadable n o) = (n, o)
 
 -- The judge: every list of bytes. "The judge writes nothing."
 unfoldable pub judge : List ℕ → Judgement

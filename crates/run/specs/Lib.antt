@@ -1,4 +1,5 @@
 pub mod Meaning
+pub mod Tops
 pub mod Run
 pub mod Answer
 pub mod Table

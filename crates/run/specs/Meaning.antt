@@ -1,7 +1,7 @@
 -- The trees that a problem's nodes and sides are, and the meaning of bindings: what the run's two questions about trees, occurs and fresh, are
 -- asked of. Definitions alone.
 use Prim.Native.Nat.{ℕ}
-use mathlib.Core.Bool.{Bool, true, false, _||_, cond}
+use mathlib.Core.Bool.{Bool, false, _||_, cond}
 use mathlib.Core.List.{List, [], _∷_, _++_}
 use mathlib.Core.Option.{Option, none, some}
 use lib.ListN.{getD}

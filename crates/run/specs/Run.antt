@@ -1,6 +1,6 @@
 -- Document 01, section "The run": 003's figure 3 with the order fixed. Definitions alone, in the document's order.
 use Prim.Native.Nat.{ℕ, zero, suc}
-use mathlib.Core.Bool.{Bool, true, false, not, cond}
+use mathlib.Core.Bool.{Bool, cond}
 use mathlib.Core.List.{List, [], _∷_, _++_, map}
 use mathlib.Core.Option.{Option, none, some}
 use lib.ListN.{length}
@@ -10,6 +10,8 @@ use Rattle.permutation.specs.Table.{Table, image, identity, after, inverted, of
 use Rattle.nominal.specs.Tree.{substitute}
 use Rattle.problem.specs.Problem.{Form, unit-form, atom-form, abstraction-form, pair-form, application-form, suspension-form, Node, formAt, Equal, Problem}
 use Rattle.run.specs.Meaning.{Side, sideTree, Binding, meaning, occursIn}
+use Rattle.run.specs.Tops.{Tops, two-suspensions, left-suspension, right-suspension, two-units, two-atoms, two-abstractions, two-pairs}
+use Rattle.run.specs.Tops.{two-applications, different-forms, tops}
 
 -- "Equations wait in a stack". "What comes of an equation keeps its number."
 pub record Equation : Type 0 where
@@ -112,64 +114,21 @@ abstractions a s b t =
     cond (eqb a b) (goes-on ((s, t) ∷ []) [] [])
     (goes-on ((s, record { images = swappedAfter a b (t .images); node = t .node }) ∷ []) [] ((a, of-side t) ∷ []))
 
--- "Then one step, the first that fits": by the tops of the resolved sides s and t.
-abbrev pub leftVariable : Ground → List Binding → Table → ℕ → Side → Side → Form Table Side → Step
-leftVariable g bs P X s t unit-form = oneVariable g bs P X t
-leftVariable g bs P X s t (atom-form b) = oneVariable g bs P X t
-leftVariable g bs P X s t (abstraction-form b v) = oneVariable g bs P X t
-leftVariable g bs P X s t (pair-form v w) = oneVariable g bs P X t
-leftVariable g bs P X s t (application-form f v) = oneVariable g bs P X t
-leftVariable g bs P X s t (suspension-form Q Y) = twoVariables g bs P X s Q Y t
-
--- "Different forms, different atoms, different symbols: 9." "Two units or the same atom: done. Applications: the two arguments. Pairs: the left
--- parts on top, then the right parts."
-abbrev pub againstUnit : Ground → List Binding → Side → Form Table Side → Step
-againstUnit g bs s unit-form = done
-againstUnit g bs s (atom-form b) = refuses clash
-againstUnit g bs s (abstraction-form b v) = refuses clash
-againstUnit g bs s (pair-form v w) = refuses clash
-againstUnit g bs s (application-form f v) = refuses clash
-againstUnit g bs s (suspension-form Q Y) = oneVariable g bs Q Y s
-
-abbrev pub againstAtom : Ground → List Binding → Side → ℕ → Form Table Side → Step
-againstAtom g bs s a unit-form = refuses clash
-againstAtom g bs s a (atom-form b) = cond (eqb a b) done (refuses clash)
-againstAtom g bs s a (abstraction-form b v) = refuses clash
-againstAtom g bs s a (pair-form v w) = refuses clash
-againstAtom g bs s a (application-form f v) = refuses clash
-againstAtom g bs s a (suspension-form Q Y) = oneVariable g bs Q Y s
-
-abbrev pub againstAbstraction : Ground → List Binding → Side → ℕ → Side → Form Table Side → Step
-againstAbstraction g bs s a u unit-form = refuses clash
-againstAbstraction g bs s a u (atom-form b) = refuses clash
-againstAbstraction g bs s a u (abstraction-form b v) = abstractions a u b v
-againstAbstraction g bs s a u (pair-form v w) = refuses clash
-againstAbstraction g bs s a u (application-form f v) = refuses clash
-againstAbstraction g bs s a u (suspension-form Q Y) = oneVariable g bs Q Y s
-
-abbrev pub againstPair : Ground → List Binding → Side → Side → Side → Form Table Side → Step
-againstPair g bs s l r unit-form = refuses clash
-againstPair g bs s l r (atom-form b) = refuses clash
-againstPair g bs s l r (abstraction-form b v) = refuses clash
-againstPair g bs s l r (pair-form v w) = goes-on ((l, v) ∷ (r, w) ∷ []) [] []
-againstPair g bs s l r (application-form f v) = refuses clash
-againstPair g bs s l r (suspension-form Q Y) = oneVariable g bs Q Y s
-
-abbrev pub againstApplication : Ground → List Binding → Side → ℕ → Side → Form Table Side → Step
-againstApplication g bs s f u unit-form = refuses clash
-againstApplication g bs s f u (atom-form b) = refuses clash
-againstApplication g bs s f u (abstraction-form b v) = refuses clash
-againstApplication g bs s f u (pair-form v w) = refuses clash
-againstApplication g bs s f u (application-form h v) = cond (eqb f h) (goes-on ((u, v) ∷ []) [] []) (refuses clash)
-againstApplication g bs s f u (suspension-form Q Y) = oneVariable g bs Q Y s
+-- "Then one step, the first that fits": by the tops of the resolved sides s and t. "Different forms, different atoms, different symbols: 9." "Two units
+-- or the same atom: done. Applications: the two arguments. Pairs: the left parts on top, then the right parts."
+abbrev pub fitting : Ground → List Binding → Side → Side → Tops Table Side → Step
+fitting g bs s t (two-suspensions P X Q Y) = twoVariables g bs P X s Q Y t
+fitting g bs s t (left-suspension P X) = oneVariable g bs P X t
+fitting g bs s t (right-suspension Q Y) = oneVariable g bs Q Y s
+fitting g bs s t two-units = done
+fitting g bs s t (two-atoms a b) = cond (eqb a b) done (refuses clash)
+fitting g bs s t (two-abstractions a u b v) = abstractions a u b v
+fitting g bs s t (two-pairs l r v w) = goes-on ((l, v) ∷ (r, w) ∷ []) [] []
+fitting g bs s t (two-applications f u h v) = cond (eqb f h) (goes-on ((u, v) ∷ []) [] []) (refuses clash)
+fitting g bs s t different-forms = refuses clash
 
 abbrev pub rule : Ground → List Binding → Side → Side → Form Table Side → Form Table Side → Step
-rule g bs s t (suspension-form P X) w = leftVariable g bs P X s t w
-rule g bs s t unit-form w = againstUnit g bs s w
-rule g bs s t (atom-form a) w = againstAtom g bs s a w
-rule g bs s t (abstraction-form a u) w = againstAbstraction g bs s a u w
-rule g bs s t (pair-form l r) w = againstPair g bs s l r w
-rule g bs s t (application-form f u) w = againstApplication g bs s f u w
+rule g bs s t v w = fitting g bs s t (tops v w)
 
 unfoldable pub step : Ground → List Binding → Side → Side → Step
 step g bs l r =

@@ -3,7 +3,7 @@
 use Prim.Native.Nat.{ℕ, zero, suc, _+_, _-_, _*_, _/_, _%_, _^_, _≤_, _<_, min, max}
 use native.Mathlib.Nat.{pow-suc, div-div-eq-div-mul, mul-comm, div-one, one-mul, div-eq-of-lt, add-zero, add-suc, zero-add, suc-add}
 use native.Mathlib.Omega.{arith}
-use native.Mathlib.Decide.{decLe, ℕ-discrete}
+use native.Mathlib.Decide.{decLe}
 use mathlib.Core.Path.{_≡_, refl, sym, _∙_, ap, ap₂}
 use mathlib.Core.Logic.{_≢_, _⊎_, inl, inr}
 use mathlib.Core.Bool.{Bool, true, false, not, _&&_, _||_}
@@ -11,10 +11,12 @@ use mathlib.Core.List.{List, [], _∷_, _++_, List·Memᴰ, List·Memᴰ·head, 
 use lib.ListN.{length}
 use lib.Pow.{pow-pos, pow-lt, pow-mono, shl-exact}
 use lib.Bits.{bitAnd, bitOr, and-step, or-step, and-shr, or-shr, and-le-l, or-lt, and-self, and-mask, or-comm, or-shifted}
-use lib.Count.{ones, trailingZeros, ones-step, ones-le, trailing-of-zero, trailing-le}
+use lib.Count.{ones, trailingZeros, ones-step, ones-le, trailing-le}
 use lib.Dec.{eqb, ltb}
 use borrow.Author.Tests.{eq-eqb, ne-eqb, eqb-true, eqb-false, lt-ltb, le-ltb}
-use Rattle.sets.specs.Bits.{bit, member, union, intersection, difference, inserted, removed, allBelow, lowest, count, membersFrom, members, setOf, ofList, among}
+use Rattle.names.proofs.Equal.{by-eq}
+use Rattle.sets.specs.Bits.{bit, member, union, intersection, difference, inserted, removed, allBelow, lowest, count, membersFrom, members, setOf, ofList}
+use Rattle.sets.specs.Bits.{among}
 
 -- Split on whether a number is below another, and on whether two numbers are equal.
 by-lt : (a n : ℕ) {R : Type 0} → (a < n → R) → (n ≤ a → R) → R
@@ -23,13 +25,6 @@ by-lt a n {R} f g = go (decLe (suc a) n)
     go : Dec (suc a ≤ n) → R
     go (yes h) = f h
     go (no h) = g (omega arith)
-
-by-eq : (a b : ℕ) {R : Type 0} → (a ≡ b → R) → (a ≢ b → R) → R
-by-eq a b {R} f g = go (ℕ-discrete a b)
-  where
-    go : Dec (a ≡ b) → R
-    go (yes p) = f p
-    go (no n) = g n
 
 -- ---- bits
 
@@ -139,10 +134,6 @@ pub same-bit : (v w i j : ℕ) → member v i ≡ member w j → bit v i ≡ bit
 same-bit v w i j e =
     by-member w j (λ p. member-bit v i (e ∙ p) ∙ sym (member-bit w j p)) (λ p. no-member-bit v i (e ∙ p) ∙ sym (no-member-bit w j p))
 
-pub member-zero : (w : ℕ) → member w 0 ≡ eqb (w % 2) 1
-unfolding member
-member-zero w = ap (λ (x : ℕ). eqb x 1) (bit-zero w)
-
 pub member-suc : (w i : ℕ) → member w (suc i) ≡ member (w / 2) i
 member-suc w i = same-member w (w / 2) (suc i) i (bit-suc w i)
 
@@ -242,11 +233,6 @@ member-inserted k w i j h =
     (λ p. rw (eq-eqb j i p) (ap (member (inserted k w i)) p ∙ member-inserted-same k w i h))
     (λ n. rw (ne-eqb j i n) (member-inserted-other k w i j n))
 
--- what was in stays in
-pub member-inserted-kept : (k w i j : ℕ) → member w j ≡ true → member (inserted k w i) j ≡ true
-member-inserted-kept k w i j m =
-    by-lt i k (λ h. member-inserted k w i j h ∙ rw m (or-true (eqb j i))) (λ h. rw (inserted-past k w i h) m)
-
 pub member-removed-same : (w i : ℕ) → member (removed w i) i ≡ false
 unfolding removed
 member-removed-same w i = rw (member-difference w (2 ^ i) i, member-power i i, eq-eqb i i refl) (and-false (member w i))
@@ -300,28 +286,14 @@ sets-extensional k v w h l e = bits-extensional k v w h l (λ i m. same-bit v w 
 pub no-members-empty : (k w : ℕ) → w < 2 ^ k → ((i : ℕ) → i < k → member w i ≡ false) → w ≡ 0
 no-members-empty k w h e = sets-extensional k w 0 h (pow-pos k) (λ i m. e i m ∙ sym (member-empty i))
 
-pub member-not-empty : (w i : ℕ) → member w i ≡ true → 0 < w
-member-not-empty w i m =
-    by-eq w 0
-    (λ p. let z : bit w i ≡ 0 = ap (λ (x : ℕ). bit x i) p ∙ bit-of-zero i in absurd (omega (arith, member-bit w i m)))
-    (λ n. omega arith)
-
 -- what `is_empty` tells
 pub not-empty : (w : ℕ) → eqb w 0 ≡ false → 0 < w
 not-empty w e = let n : w ≢ 0 = eqb-false w 0 e in omega arith
-
-pub empty-no-member : (w i : ℕ) → eqb w 0 ≡ true → member w i ≡ false
-empty-no-member w i e = ap (λ (x : ℕ). member x i) (eqb-true w 0 e) ∙ member-empty i
 
 -- ---- disjoint sets, and a set within another
 
 pub disjoint-apart : (v w i : ℕ) → intersection v w ≡ 0 → member v i ≡ true → member w i ≡ false
 disjoint-apart v w i e m = sym (member-intersection v w i ∙ rw m) ∙ ap (λ (x : ℕ). member x i) e ∙ member-empty i
-
-pub apart-disjoint : (k v w : ℕ) → v < 2 ^ k → ((i : ℕ) → i < k → member v i ≡ true → member w i ≡ false) → intersection v w ≡ 0
-apart-disjoint k v w h f =
-    no-members-empty k (intersection v w) (omega (arith, intersection-le v w)) λ i l.
-    member-intersection v w i ∙ by-member v i (λ m. rw m (f i l m)) (λ m. rw m)
 
 pub subset-member : (v w i : ℕ) → difference v w ≡ 0 → member v i ≡ true → member w i ≡ true
 subset-member v w i e m =
@@ -370,10 +342,6 @@ lowest-even k w e = rw e
 by-odd : (w : ℕ) {R : Type 0} → (w % 2 ≡ 1 → R) → (w % 2 ≡ 0 → R) → R
 by-odd w f g = by-eq (w % 2) 1 f (λ n. g (omega arith))
 
-pub lowest-empty : (k : ℕ) → lowest k 0 ≡ k
-unfolding lowest
-lowest-empty k = trailing-of-zero k
-
 pub lowest-le : (k w : ℕ) → lowest k w ≤ k
 unfolding lowest
 lowest-le k w = trailing-le k w
@@ -397,12 +365,6 @@ lowest-least (suc k) w zero l =
 lowest-least (suc k) w (suc i) l =
     by-odd w (λ e. absurd (omega (arith, lowest-odd k w e))) λ e.
     member-suc w i ∙ lowest-least k (w / 2) i (omega (arith, lowest-even k w e))
-
-pub lowest-at-most : (k w i : ℕ) → member w i ≡ true → lowest k w ≤ i
-lowest-at-most k w i m =
-    by-lt i (lowest k w)
-    (λ l. let o : bit w i ≡ 1 = member-bit w i m in absurd (omega (arith, no-member-bit w i (lowest-least k w i l))))
-    (λ l. l)
 
 -- ---- removing, digit by digit
 
@@ -499,12 +461,6 @@ count-removed w (suc i) m =
 pub count-removed-lt : (w i : ℕ) → member w i ≡ true → count (removed w i) < count w
 count-removed-lt w i m = omega (arith, count-removed w i m)
 
-pub count-without-lowest : (k w : ℕ) → 0 < w → w < 2 ^ k → suc (count (removed w (lowest k w))) ≡ count w
-count-without-lowest k w p h = count-removed w (lowest k w) (lowest-member k w p h)
-
-pub count-positive : (k w : ℕ) → 0 < w → w < 2 ^ k → 0 < count w
-count-positive k w p h = omega (arith, count-without-lowest k w p h)
-
 pub removed-inserted : (k w i : ℕ) → w < 2 ^ k → i < k → member w i ≡ false → removed (inserted k w i) i ≡ w
 removed-inserted k w i h l m =
     sets-extensional k (removed (inserted k w i) i) w (omega (arith, removed-le (inserted k w i) i, inserted-lt k w i h)) h λ j n.
@@ -549,10 +505,6 @@ unfolding members
 members-lowest k w p h =
     membersFrom-first 0 k w (lowest k w) (omega arith) (omega (arith, lowest-lt k w p h)) (lowest-member k w p h) (lowest-least k w)
 
-pub members-same : (k v w : ℕ) → ((j : ℕ) → j < k → member v j ≡ member w j) → members k v ≡ members k w
-unfolding members
-members-same k v w e = membersFrom-same 0 k v w (λ j l h. e j (omega arith))
-
 pub membersFrom-in : (i n w j : ℕ) → i ≤ j → j < i + n → member w j ≡ true → List·Memᴰ j (membersFrom i n w)
 membersFrom-in i zero w j l h m = absurd (omega arith)
 membersFrom-in i (suc n) w j l h m =
@@ -576,10 +528,6 @@ in-membersFrom i (suc n) w j x =
     (λ y. let r = in-membersFrom (suc i) n w j y in (omega arith, omega arith, r .2))
     (rw q at x))
     (λ q. let r = in-membersFrom (suc i) n w j (rw q at x) in (omega arith, omega arith, r .2))
-
-pub member-in-members : (k w i : ℕ) → w < 2 ^ k → member w i ≡ true → List·Memᴰ i (members k w)
-unfolding members
-member-in-members k w i h m = membersFrom-in 0 k w i (omega arith) (omega (arith, member-within k w i h m)) m
 
 pub in-members-member : (k w i : ℕ) → List·Memᴰ i (members k w) → member w i ≡ true
 unfolding members
@@ -635,12 +583,6 @@ member-setOf f (suc k) i h =
 -- a word that has a test's members is the test's word
 pub setOf-unique : (f : ℕ → Bool) (k w : ℕ) → w < 2 ^ k → ((i : ℕ) → i < k → member w i ≡ f i) → w ≡ setOf f k
 setOf-unique f k w h e = sets-extensional k w (setOf f k) h (setOf-lt f k) (λ i l. e i l ∙ sym (member-setOf f k i l))
-
-pub setOf-same : (f g : ℕ → Bool) (k : ℕ) → ((i : ℕ) → i < k → f i ≡ g i) → setOf f k ≡ setOf g k
-setOf-same f g k e = setOf-unique g k (setOf f k) (setOf-lt f k) (λ i l. member-setOf f k i l ∙ e i l)
-
-pub setOf-member : (k w : ℕ) → w < 2 ^ k → setOf (member w) k ≡ w
-setOf-member k w h = sym (setOf-unique (member w) k w h (λ i l. refl))
 
 pub ofList-lt : (k : ℕ) (l : List ℕ) → ofList k l < 2 ^ k
 ofList-lt k [] = pow-pos k

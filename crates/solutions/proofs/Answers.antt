@@ -11,14 +11,15 @@ use lib.ListN.{length}
 use Rattle.sets.specs.Bits.{among}
 use Rattle.nominal.specs.Tree.{variable, Occurs, Substitution, substitute, composed}
 use Rattle.nominal.specs.Figure2.{Environment}
-use Rattle.nominal.specs.Solutions.{Every, given, Allowance, Meets, Equates, Solves, Holds, Satisfies, Idempotent, Unbound}
+use Rattle.nominal.specs.Solutions.{Every, environmentOf, Allowance, Meets, Equates, Solves, Holds, Satisfies, Idempotent, Unbound}
 use Rattle.nominal.proofs.Tree.{permute-nil}
 use Rattle.nominal.proofs.Laws.{equal-reflexive, equal-symmetric}
 use Rattle.nominal.proofs.Solutions.{every-of, every-append, every-map, meets-equal, instance-exactly}
 use Rattle.problem.specs.Problem.{Node, Equal, Fresh, Assumed, Problem}
 use Rattle.problem.specs.Readable.{Readable}
 use Rattle.run.specs.Meaning.{Side, Binding, Fact, tree, meaning, freshFor}
-use Rattle.run.specs.Run.{Equation, Subject, of-variable, of-side, Demand, Ground, valueOf, goes-on, step, End, limit, refused, finished, pending, bindings, demands, run, groundOf, runOf, equationsFrom}
+use Rattle.run.specs.Run.{Equation, Subject, of-variable, of-side, Demand, Ground, valueOf, goes-on, step, End, limit, refused, finished, pending, bindings}
+use Rattle.run.specs.Run.{demands, run, groundOf, runOf, equationsFrom}
 use Rattle.run.specs.Answer.{Asked, subjectTree, askedFresh, askedAssumed, askedRaised, resolvedAll, facts, concluded, verdictOf}
 use Rattle.run.proofs.Trees.{NamedTree, named-node, named-side, named-substitute, tree-plain}
 use Rattle.run.proofs.Same.{same-symmetric}
@@ -46,7 +47,8 @@ start-equal nodes ∇ τ atoms i (e ∷ es) =
     let k = start-equal nodes ∇ τ atoms (suc i) es in
     (λ h. (equates-same τ l r (h .0), k .0 (h .1)), λ h. (equates-same τ (same-symmetric l) (same-symmetric r) (h .0), k .1 (h .1)))
 
-pub started : (p : Problem) (∇ : Environment) (τ : Substitution) → Satisfied (p .nodes) ∇ τ (equationsFrom (p .atoms) 0 (p .equations)) [] [] ↔ Every (Equates ∇ τ) (asked p .equations)
+pub started : (p : Problem) (∇ : Environment) (τ : Substitution)
+    → Satisfied (p .nodes) ∇ τ (equationsFrom (p .atoms) 0 (p .equations)) [] [] ↔ Every (Equates ∇ τ) (asked p .equations)
 started p ∇ τ = (
   λ s. start-equal (p .nodes) ∇ τ (p .atoms) 0 (p .equations) .0 (s .waiting),
   λ h. record {
@@ -63,12 +65,17 @@ abbrev pub NamedAsked : Problem → Asked → Type 0
 NamedAsked p d = (d .0 < p .atoms) × NamedTree (p .atoms) (p .variables) (d .1)
 
 module _ (p : Problem) (r : Readable p) where
-  fresh-named : (ds : List Fresh) → ((d : Fresh) → List·Memᴰ d ds → (d .atom < p .atoms) × (d .node < length (p .nodes))) → Every (NamedAsked p) (askedFresh (p .nodes) ds)
+  fresh-named : (ds : List Fresh) → ((d : Fresh) → List·Memᴰ d ds → (d .atom < p .atoms) × (d .node < length (p .nodes)))
+      → Every (NamedAsked p) (askedFresh (p .nodes) ds)
   fresh-named [] h = tt
-  fresh-named (d ∷ ds) h =
-      ((h d (List·Memᴰ·head refl) .0, named-node (p .atoms) (p .variables) (p .nodes) (r .named-nodes) (d .node)), fresh-named ds (λ e m. h e (List·Memᴰ·tail m)))
+  fresh-named (d ∷ ds) h = (
+    (h d (List·Memᴰ·head refl) .0, named-node (p .atoms) (p .variables) (p .nodes) (r .named-nodes) (d .node)),
+    fresh-named ds
+        (λ e m. h e (List·Memᴰ·tail m)),
+  )
 
-  assumed-named : (ds : List Assumed) → ((d : Assumed) → List·Memᴰ d ds → (d .atom < p .atoms) × (d .variable < p .variables)) → Every (NamedAsked p) (askedAssumed ds)
+  assumed-named : (ds : List Assumed) → ((d : Assumed) → List·Memᴰ d ds → (d .atom < p .atoms) × (d .variable < p .variables))
+      → Every (NamedAsked p) (askedAssumed ds)
   assumed-named [] h = tt
   assumed-named (d ∷ ds) h = let k = h d (List·Memᴰ·head refl) in ((k .0, (k .1, tt)), assumed-named ds (λ e m. h e (List·Memᴰ·tail m)))
 
@@ -77,11 +84,13 @@ module _ (p : Problem) (r : Readable p) where
     subject-named (of-variable X) f = (f, tt)
     subject-named (of-side s) f = named-side (p .atoms) (p .variables) (p .nodes) (r .named-nodes) s (f .images)
 
-    raised-named : (ds : List Demand) → Every (λ d. DemandFits (groundWith p isProtected) (p .variables) (d .atom, d .subject)) ds → Every (NamedAsked p) (askedRaised (p .nodes) ds)
+    raised-named : (ds : List Demand) → Every (λ d. DemandFits (groundWith p isProtected) (p .variables) (d .atom, d .subject)) ds
+        → Every (NamedAsked p) (askedRaised (p .nodes) ds)
     raised-named [] h = tt
     raised-named (d ∷ ds) h = ((h .0 .0, subject-named (d .subject) (h .0 .1)), raised-named ds (h .1))
 
-    pub asks-named : (ds : List Demand) → Every (λ d. DemandFits (groundWith p isProtected) (p .variables) (d .atom, d .subject)) ds → Every (NamedAsked p) (asked p .demands ++ askedRaised (p .nodes) ds)
+    pub asks-named : (ds : List Demand) → Every (λ d. DemandFits (groundWith p isProtected) (p .variables) (d .atom, d .subject)) ds
+        → Every (NamedAsked p) (asked p .demands ++ askedRaised (p .nodes) ds)
     asks-named ds h =
         every-append (NamedAsked p) (asked p .demands) (askedRaised (p .nodes) ds) .1 (
           every-append (NamedAsked p) (askedFresh (p .nodes) (p .freshness)) (askedAssumed (p .assumptions)) .1
@@ -96,18 +105,21 @@ module _ (p : Problem) (isProtected : ℕ → Bool) {bs : List Binding} (m : Mea
       let σ : Substitution = meaning (p .nodes) bs in
       resolvedAll-wherever (NamedFact (p .atoms) (p .variables)) σ asks
       (every-map (NamedAsked p) (λ d. Wherever (NamedFact (p .atoms) (p .variables)) (freshFor (d .0) (substitute σ (d .1))))
-      (λ d h. freshFor-named (p .atoms) (p .variables) (d .0) (substitute σ (d .1)) (h .0) (named-substitute (p .atoms) (p .variables) σ (m .named) (d .1) (h .1))) asks n)
+      (λ d h. freshFor-named (p .atoms) (p .variables) (d .0) (substitute σ (d .1)) (h .0)
+      (named-substitute (p .atoms) (p .variables) σ (m .named) (d .1) (h .1))) asks n)
 
   pub facts-unbound : (asks : List Asked) → Wherever (Unbound (meaning (p .nodes) bs)) (resolvedAll (meaning (p .nodes) bs) asks)
   facts-unbound asks =
       let σ : Substitution = meaning (p .nodes) bs in
       resolvedAll-wherever (Unbound σ) σ asks
       (every-of (λ d. Wherever (Unbound σ) (freshFor (d .0) (substitute σ (d .1)))) asks
-      (λ d k. wherever-map (λ f. Occurs (f .1) (substitute σ (d .1))) (Unbound σ) (λ f o. m .free (f .1) (meant-gone m (f .1) (d .1) o)) (freshFor (d .0) (substitute σ (d .1)))
+      (λ d k. wherever-map (λ f. Occurs (f .1) (substitute σ (d .1))) (Unbound σ) (λ f o. m .free (f .1) (meant-gone m (f .1) (d .1) o))
+      (freshFor (d .0) (substitute σ (d .1)))
       (freshFor-occurs (d .0) (substitute σ (d .1)))))
 
 -- Who satisfies a substitution derives the demands exactly if the facts that they come down to hold.
-pub demands-resolved : (σ : Substitution) (∇ : Environment) (τ : Substitution) → Satisfies ∇ τ σ → (asks : List Asked) → Every (Meets ∇ τ) asks ↔ Each (Holds ∇ τ) (resolvedAll σ asks)
+pub demands-resolved : (σ : Substitution) (∇ : Environment) (τ : Substitution) → Satisfies ∇ τ σ → (asks : List Asked)
+    → Every (Meets ∇ τ) asks ↔ Each (Holds ∇ τ) (resolvedAll σ asks)
 demands-resolved σ ∇ τ h asks =
     let k = resolvedAll-holds ∇ τ σ asks in (
       λ e. k .0 (every-map (Meets ∇ τ) (Meets ∇ (composed τ σ)) (meets-equal τ (composed τ σ) h) asks e),
@@ -141,11 +153,14 @@ solves-exactly p bs ds ∇ τ x = (
 
 -- What holds at the end of a run, whichever variables are protected: a state, and none of those is bound.
 abbrev pub Kept : (p : Problem) → Readable p → (ℕ → Bool) → List Equation → List Binding → List Demand → Type 1
-Kept p r isProtected es bs ds = State (groundWith p isProtected) (p .variables) (r .named-nodes) es bs ds × ((X : ℕ) → isProtected X ≡ true → valueOf bs X ≡ none)
+Kept p r isProtected es bs ds =
+    State (groundWith p isProtected) (p .variables) (r .named-nodes) es bs ds × ((X : ℕ) → isProtected X ≡ true → valueOf bs X ≡ none)
 
-pub run-kept : (p : Problem) (r : Readable p) (isProtected : ℕ → Bool) → AtEnd (Kept p r isProtected) (run (groundWith p isProtected) (p .limit) (equationsFrom (p .atoms) 0 (p .equations)) [] [])
+pub run-kept : (p : Problem) (r : Readable p) (isProtected : ℕ → Bool)
+    → AtEnd (Kept p r isProtected) (run (groundWith p isProtected) (p .limit) (equationsFrom (p .atoms) 0 (p .equations)) [] [])
 run-kept p r isProtected =
-    run-end (groundWith p isProtected) (Kept p r isProtected) once (p .limit) (equationsFrom (p .atoms) 0 (p .equations)) [] [] (start p r isProtected, λ X e. refl)
+    run-end (groundWith p isProtected) (Kept p r isProtected) once (p .limit) (equationsFrom (p .atoms) 0 (p .equations)) [] []
+    (start p r isProtected, λ X e. refl)
   where
     once : (e : Equation) (es : List Equation) (bs : List Binding) (ds : List Demand) (qs : List (Side × Side)) (b : List (ℕ × Side)) (d : List (ℕ × Subject))
         → Kept p r isProtected (e ∷ es) bs ds → step (groundWith p isProtected) bs (e .left) (e .right) ≡ goes-on qs b d
@@ -173,25 +188,28 @@ module _ (p : Problem) (r : Readable p) {es : List Equation} {bs : List Binding}
   )
 
 -- Demand 3, over any allowance whose substitutions leave protected variables as they are.
-module _ (p : Problem) (r : Readable p) (A : Allowance) (leaves : (τ : Substitution) → A .allowsSubstitution τ → (X : ℕ) → IsProtected p X → τ X ≡ variable X) where
+module _ (p : Problem) (r : Readable p) (A : Allowance)
+    (leaves : (τ : Substitution) → A .allowsSubstitution τ → (X : ℕ) → IsProtected p X → τ X ≡ variable X) where
   abbrev Allows : Environment → Substitution → Type 0
   Allows ∇ τ = A .allowsSubstitution τ
 
   concluded-promised : (k : ℕ) (bs : List Binding) → Idempotent (meaning (p .nodes) bs) → (o : Option (List Fact))
       → ((∇ : Environment) (τ : Substitution) → Allows ∇ τ → Solves ∇ τ (asked p) ↔ (Satisfies ∇ τ (meaning (p .nodes) bs) × Each (Holds ∇ τ) o))
       → Wherever (NamedFact (p .atoms) (p .variables)) o → Wherever (Unbound (meaning (p .nodes) bs)) o → Promised A p (concluded p k bs o)
-  concluded-promised k bs once none x n u = λ l h F τ a s. x (given F) τ (a .1) .0 s .1
+  concluded-promised k bs once none x n u = λ l F τ a s. x (environmentOf F) τ (a .1) .0 s .1
   concluded-promised k bs once (some fs) x n u = λ F τ a.
-      let i = instance-exactly A {∇ = given F} τ (answerOf p bs (facts p fs)) once (a .1) (every-facts p (Unbound (meaning (p .nodes) bs)) fs n .0 u) in
-      let e = every-facts p (Holds (given F) τ) fs n in
-      let y = x (given F) τ (a .1) in
+      let i = instance-exactly A {∇ = environmentOf F} τ (answerOf p bs (facts p fs)) once (a .1) (every-facts p (Unbound (meaning (p .nodes) bs)) fs n .0 u) in
+      let e = every-facts p (Holds (environmentOf F) τ) fs n in
+      let y = x (environmentOf F) τ (a .1) in
       (λ s. let j = y .0 s in i .0 (j .0, e .0 (j .1)), λ j. let h = i .1 j in y .1 (h .0, e .1 (h .1)))
 
-  verdict-promised : (x : End) → Right (groundOf p) (p .variables) (r .named-nodes) Allows (λ ∇ τ. Satisfied (p .nodes) ∇ τ (equationsFrom (p .atoms) 0 (p .equations)) [] []) x → AtEnd (Kept p r (listed p)) x
+  verdict-promised : (x : End)
+      → Right (groundOf p) (p .variables) (r .named-nodes) Allows (λ ∇ τ. Satisfied (p .nodes) ∇ τ (equationsFrom (p .atoms) 0 (p .equations)) [] []) x
+      → AtEnd (Kept p r (listed p)) x
       → Promised A p (verdictOf p x)
   unfolding verdictOf
-  verdict-promised (limit n) y s = λ h k. absurd (omega arith)
-  verdict-promised (refused c n) y s = λ h k F τ a e. y (given F) τ (a .1) (started p (given F) τ .1 (e .1))
+  verdict-promised (limit n) y s = λ h. absurd (let (x, z) = h in omega arith)
+  verdict-promised (refused c n) y s = λ h F τ a e. y (environmentOf F) τ (a .1) (started p (environmentOf F) τ .1 (e .1))
   verdict-promised (finished k bs ds) y s =
       let m = s .0 .meant in
       concluded-promised k bs (meant-idempotent m) (resolvedAll (meaning (p .nodes) bs) (askedAll p ds))

@@ -10,19 +10,20 @@ use mathlib.Core.Option.{Option, none, some}
 use Rattle.field.specs.Field.{Bytes}
 use Rattle.nominal.specs.Tree.{variable, Substitution}
 use Rattle.nominal.specs.Figure2.{Environment, _⊢_#_, _⊢_≈_}
-use Rattle.nominal.specs.Solutions.{Every, given, Meets, Equates, Holds, Satisfies}
+use Rattle.nominal.specs.Solutions.{Every, environmentOf, Meets, Equates, Holds, Satisfies}
 use Rattle.nominal.proofs.Tree.{substitute-variable}
 use Rattle.nominal.proofs.Figure2.{fresh-suspension}
 use Rattle.nominal.proofs.Laws.{equal-reflexive}
 use Rattle.nominal.proofs.Solutions.{every-map, every-append}
 use Rattle.problem.specs.Problem.{Assumed, Problem}
 use Rattle.problem.specs.Readable.{Readable}
-use Rattle.problem.specs.Reader.{Reading, read, reading, baseTags, refused as unread}
+use Rattle.problem.specs.Reader.{Reading, read, reading, baseTags, unreadable as unread}
 use Rattle.problem.proofs.Readable.{readable}
 use Rattle.problem.proofs.Numbers.{OneToSeven, reading-number}
 use Rattle.run.specs.Meaning.{Binding, Fact, tree, meaning}
 use Rattle.run.specs.Run.{Demand, End, limit, refused, finished, run, equationsFrom}
-use Rattle.run.specs.Answer.{subjectTree, askedFresh, askedRaised, resolvedAll, judgedRun, assumedFacts, allAmong, Judgement, holdsFrom, judgementOf, judgementRead, judge}
+use Rattle.run.specs.Answer.{subjectTree, askedFresh, askedRaised, resolvedAll, judgedRun, assumedFacts, allAmong, Judgement, holdsFrom, judgementOf}
+use Rattle.run.specs.Answer.{judgementRead, judge}
 use Rattle.run.proofs.Questions.{Each}
 use Rattle.run.proofs.Facts.{allAmong-true}
 use Rattle.run.proofs.States.{AtEnd, start, groundWith}
@@ -41,7 +42,7 @@ Still ∇ τ = (X : ℕ) → τ X ≡ variable X
 module _ (p : Problem) where
   -- The assumptions as an environment.
   abbrev assumed : Environment
-  assumed = given (assumedFacts (p .assumptions))
+  assumed = environmentOf (assumedFacts (p .assumptions))
 
   abbrev DerivesEquations : Type 0
   DerivesEquations = Every (λ e. assumed ⊢ tree (p .nodes) (e .left) ≈ tree (p .nodes) (e .right)) (p .equations)
@@ -52,9 +53,11 @@ module _ (p : Problem) where
   equations-asked : Every (Equates assumed variable) (asked p .equations) ↔ DerivesEquations
   equations-asked =
       let k = every-mapped (Equates assumed variable) (λ e. (tree (p .nodes) (e .left), tree (p .nodes) (e .right))) (p .equations) in (
-        λ h. every-map (λ e. Equates assumed variable (tree (p .nodes) (e .left), tree (p .nodes) (e .right))) (λ e. assumed ⊢ tree (p .nodes) (e .left) ≈ tree (p .nodes) (e .right))
+        λ h. every-map (λ e. Equates assumed variable (tree (p .nodes) (e .left), tree (p .nodes) (e .right)))
+            (λ e. assumed ⊢ tree (p .nodes) (e .left) ≈ tree (p .nodes) (e .right))
             (λ e d. simp substitute-variable at d) (p .equations) (k .0 h),
-        λ h. k .1 (every-map (λ e. assumed ⊢ tree (p .nodes) (e .left) ≈ tree (p .nodes) (e .right)) (λ e. Equates assumed variable (tree (p .nodes) (e .left), tree (p .nodes) (e .right)))
+        λ h. k .1 (every-map (λ e. assumed ⊢ tree (p .nodes) (e .left) ≈ tree (p .nodes) (e .right))
+            (λ e. Equates assumed variable (tree (p .nodes) (e .left), tree (p .nodes) (e .right)))
             (λ e d. simp substitute-variable d) (p .equations) h),
       )
 
@@ -81,7 +84,8 @@ module _ (p : Problem) where
     where
       by-among : (b : Bool) → allAmong (assumedFacts (p .assumptions)) fs ≡ b → (cond {A = Judgement} b (0, 0) (14, 0) .0 ≡ 0) ↔ Derives p
       by-among true e = (λ z. x .1 (facts-assumed fs .1 (allAmong-true (assumedFacts (p .assumptions)) fs .0 e)), λ d. refl)
-      by-among false e = (λ z. absurd (omega arith), λ d. absurd (true≢false (sym (allAmong-true (assumedFacts (p .assumptions)) fs .1 (facts-assumed fs .0 (x .0 d))) ∙ e)))
+      by-among false e =
+          (λ z. absurd (omega arith), λ d. absurd (true≢false (sym (allAmong-true (assumedFacts (p .assumptions)) fs .1 (facts-assumed fs .0 (x .0 d))) ∙ e)))
 
   module _ (r : Readable p) where
     finished-judged : (bs : List Binding) (ds : List Demand) → Kept p r all [] bs ds
@@ -91,8 +95,11 @@ module _ (p : Problem) where
       λ d. resolve .0 (every-append (Meets assumed variable) (askedFresh (p .nodes) (p .freshness)) (askedRaised (p .nodes) ds) .1
           (freshness-asked .1 (d .1), raised .1 (x .0 (started p assumed variable .1 (equations-asked .1 (d .0))) .raised))),
       λ h.
-          let k = every-append (Meets assumed variable) (askedFresh (p .nodes) (p .freshness)) (askedRaised (p .nodes) ds) .0 (resolve .1 h) in
-          (equations-asked .0 (started p assumed variable .0 (x .1 (record { waiting = tt; bound = nothing; raised = raised .0 (k .1) }))), freshness-asked .0 (k .0)),
+          let k = every-append (Meets assumed variable) (askedFresh (p .nodes) (p .freshness)) (askedRaised (p .nodes) ds) .0 (resolve .1 h) in (
+            equations-asked .0 (started p assumed variable .0 (x .1 (record { waiting = tt; bound = nothing; raised = raised .0 (k .1) }))),
+            freshness-asked .0
+                (k .0),
+          ),
     )
       where
         -- No variable is bound.
@@ -106,20 +113,24 @@ module _ (p : Problem) where
         raised : Every (Meets assumed variable) (askedRaised (p .nodes) ds) ↔ RaisedMeet (p .nodes) assumed variable ds
         raised = every-mapped (Meets assumed variable) (λ d. (d .atom, subjectTree (p .nodes) (d .subject))) ds
 
-    end-judged : (x : End) → Right (groundWith p all) (p .variables) (r .named-nodes) Still (λ ∇ τ. Satisfied (p .nodes) ∇ τ (equationsFrom (p .atoms) 0 (p .equations)) [] []) x
+    end-judged : (x : End)
+        → Right (groundWith p all) (p .variables) (r .named-nodes) Still (λ ∇ τ. Satisfied (p .nodes) ∇ τ (equationsFrom (p .atoms) 0 (p .equations)) [] []) x
         → AtEnd (Kept p r all) x → Judged p (judgementOf p x)
     unfolding judgementOf
     end-judged (limit n) y s = λ e. absurd (e refl)
-    end-judged (refused c n) y s = λ e. (λ z. absurd (omega arith), λ d. absurd (y assumed variable (λ X. refl) (started p assumed variable .1 (equations-asked .1 (d .0)))))
+    end-judged (refused c n) y s =
+        λ e. (λ z. absurd (omega arith), λ d. absurd (y assumed variable (λ X. refl) (started p assumed variable .1 (equations-asked .1 (d .0)))))
     end-judged (finished k bs ds) y s =
-        holds-judged (resolvedAll (meaning (p .nodes) bs) (askedFresh (p .nodes) (p .freshness) ++ askedRaised (p .nodes) ds)) (finished-judged bs ds s (y assumed variable (λ X. refl)))
+        holds-judged (resolvedAll (meaning (p .nodes) bs) (askedFresh (p .nodes) (p .freshness) ++ askedRaised (p .nodes) ds))
+        (finished-judged bs ds s (y assumed variable (λ X. refl)))
 
     -- Of every readable problem.
     pub judged : Judged p (judgementOf p (judgedRun p))
     unfolding judgedRun
     judged =
         end-judged (run (groundWith p all) (p .limit) (equationsFrom (p .atoms) 0 (p .equations)) [] [])
-        (run-right (groundWith p all) (p .variables) (r .named-nodes) Still (p .limit) (equationsFrom (p .atoms) 0 (p .equations)) [] [] (start p r all) (λ ∇ τ a X y e. a X))
+        (run-right (groundWith p all) (p .variables) (r .named-nodes) Still (p .limit) (equationsFrom (p .atoms) 0 (p .equations)) [] [] (start p r all)
+        (λ ∇ τ a X y e. a X))
         (run-kept p r all)
 
 -- 0, 8 or 14, and a place only with 8.
@@ -138,7 +149,8 @@ pub judge-number : (p : Problem) (x : End) → JudgeNumber (judgementOf p x)
 unfolding judgementOf
 judge-number p (limit n) = inr (inr refl)
 judge-number p (refused c n) = inr (inl refl)
-judge-number p (finished k bs ds) = holds-number (p .assumptions) (resolvedAll (meaning (p .nodes) bs) (askedFresh (p .nodes) (p .freshness) ++ askedRaised (p .nodes) ds))
+judge-number p (finished k bs ds) =
+    holds-number (p .assumptions) (resolvedAll (meaning (p .nodes) bs) (askedFresh (p .nodes) (p .freshness) ++ askedRaised (p .nodes) ds))
 
 -- ---- from bytes
 
@@ -147,7 +159,8 @@ module _ (input : List ℕ) (b : Bytes input) where
   unfolding judge judgementRead
   judge-exactly p e = rw e (judged p (readable baseTags input p b e))
 
-  judged-read : (x : Reading) → reading baseTags input ≡ x → OneToSeven x → judgementRead x .0 ≡ 0 → (p : Problem) × (reading baseTags input ≡ read p) × Derives p
+  judged-read : (x : Reading) → reading baseTags input ≡ x → OneToSeven x → judgementRead x .0 ≡ 0
+      → (p : Problem) × (reading baseTags input ≡ read p) × Derives p
   unfolding judgementRead
   judged-read (read p) e n z = (p, e, judged p (readable baseTags input p b e) (λ k. absurd (omega arith)) .0 z)
   judged-read (unread n o) e k z = absurd (let (x, y) = k in omega arith)

@@ -17,7 +17,8 @@ use Rattle.nominal.specs.Figure2.{Environment, ≈-unit, ≈-atom}
 use Rattle.nominal.specs.Solutions.{Every, Meets, Equates, Satisfies}
 use Rattle.nominal.proofs.Laws.{equal-symmetric, equal-transitive}
 use Rattle.nominal.proofs.Solutions.{satisfies-tree}
-use Rattle.nominal.proofs.Steps.{form-substitute, step-pair, step-application, step-abstraction-same, step-abstraction-other, step-suspension, step-variable, occurs-refused, forms-refused, atoms-refused, symbols-refused, protected-refused, two-protected-refused}
+use Rattle.nominal.proofs.Steps.{form-substitute, step-pair, step-application, step-abstraction-same, step-abstraction-other, step-suspension, step-variable}
+use Rattle.nominal.proofs.Steps.{occurs-refused, forms-refused, atoms-refused, symbols-refused, protected-refused, two-protected-refused}
 use Rattle.problem.specs.Problem.{Form, unit-form, atom-form, abstraction-form, pair-form, application-form, suspension-form, Node, formAt}
 use Rattle.problem.specs.Readable.{Named}
 use Rattle.run.specs.Meaning.{Side, sideTree, Binding, meaning}
@@ -26,7 +27,10 @@ use Rattle.run.specs.Answer.{subjectTree}
 use Rattle.nominal.specs.Same.{Same}
 use Rattle.run.proofs.Same.{same-symmetric, same-transitive, same-permute, same-substitute, same-equal, alike-inverse}
 use Rattle.run.proofs.Trees.{Permuting, Fits, act-permuting, tree-under-inverted, tree-underSwap, Shows, TopFits, top-shows, top-fits}
-use Rattle.run.proofs.Did.{Did, step-did, kind, Root, suspended, otherwise, root, NotOf, two-units, same-atoms, same-abstractions, other-abstractions, two-pairs, same-symbols, one-variable, left-bound, right-bound, left-inside, right-inside, left-protected, right-protected, both-protected, different-forms, different-atoms, different-symbols}
+use Rattle.run.proofs.Tops.{kind}
+use Rattle.run.proofs.Did.{Did, step-did, Root, suspended, otherwise, root, NotOf, two-units, same-atoms, same-abstractions, other-abstractions}
+use Rattle.run.proofs.Did.{two-pairs, same-symbols, one-variable, left-bound, right-bound, left-inside, right-inside, left-protected, right-protected}
+use Rattle.run.proofs.Did.{both-protected, different-forms, different-atoms, different-symbols}
 use Rattle.run.proofs.Questions.{occursIn-true}
 use Rattle.run.proofs.Bindings.{Settled, Meant, resolved-fits, resolved-equal}
 
@@ -63,7 +67,8 @@ shows-form nodes t (pair-form l r) e = ap form e
 shows-form nodes t (application-form f s) e = ap form e
 shows-form nodes t (suspension-form P X) e = ap form (e .1)
 
-module _ (g : Ground) (variables : ℕ) (named : (n : ℕ) → Named (g .atoms) variables n (formAt (g .nodes) n)) {bs : List Binding} (m : Meant g variables bs (meaning (g .nodes) bs)) where
+module _ (g : Ground) (variables : ℕ) (named : (n : ℕ) → Named (g .atoms) variables n (formAt (g .nodes) n)) {bs : List Binding}
+    (m : Meant g variables bs (meaning (g .nodes) bs)) where
   abbrev σ : Substitution
   σ = meaning (g .nodes) bs
 
@@ -80,7 +85,8 @@ module _ (g : Ground) (variables : ℕ) (named : (n : ℕ) → Named (g .atoms) 
     Says = Comes (g .nodes) ∇ τ
 
     -- 10: a variable inside its own value.
-    inside-refused : (ρ : Swaps) (X : ℕ) (t : Tree) → Occurs X (substitute σ t) → ((κ : Swaps) → substitute σ t ≢ suspension κ X) → Equates ∇ τ (suspension ρ X, t) → ⊥
+    inside-refused : (ρ : Swaps) (X : ℕ) (t : Tree) → Occurs X (substitute σ t) → ((κ : Swaps) → substitute σ t ≢ suspension κ X)
+        → Equates ∇ τ (suspension ρ X, t) → ⊥
     inside-refused ρ X t o n e = occurs-refused τ ρ X (substitute σ t) o n (equal-transitive e (satisfies-tree τ σ h t))
 
     -- "X becomes the inverse of P applied to the right side."
@@ -98,11 +104,13 @@ module _ (g : Ground) (variables : ℕ) (named : (n : ℕ) → Named (g .atoms) 
     raised-of P Q X k [] i = tt
     raised-of P Q X k (a ∷ l) i = (k a (i a (List·Memᴰ·head refl)), raised-of P Q X k l (λ b n. i b (List·Memᴰ·tail n)))
 
-    raised-at : (X : ℕ) (l : List ℕ) → Every (SubjectMeets (g .nodes) ∇ τ) (map (λ a. (a, of-variable X)) l) → (a : ℕ) → List·Memᴰ a l → Meets ∇ τ (a, variable X)
+    raised-at : (X : ℕ) (l : List ℕ) → Every (SubjectMeets (g .nodes) ∇ τ) (map (λ a. (a, of-variable X)) l) → (a : ℕ) → List·Memᴰ a l
+        → Meets ∇ τ (a, variable X)
     raised-at X (b ∷ l) k a (List·Memᴰ·head e) = rw e (k .0)
     raised-at X (b ∷ l) k a (List·Memᴰ·tail n) = raised-at X l (k .1) a n
 
-    variable-equal : (π ρ : Swaps) (P Q : Table) (X : ℕ) → Permuting (g .atoms) P → Permuting (g .atoms) Q → ((a : ℕ) → act π a ≡ image P a) → ((a : ℕ) → act ρ a ≡ image Q a)
+    variable-equal : (π ρ : Swaps) (P Q : Table) (X : ℕ) → Permuting (g .atoms) P → Permuting (g .atoms) Q → ((a : ℕ) → act π a ≡ image P a)
+        → ((a : ℕ) → act ρ a ≡ image Q a)
         → Equates ∇ τ (suspension π X, suspension ρ X) ↔ Every (SubjectMeets (g .nodes) ∇ τ) (map (λ a. (a, of-variable X)) (disagreement P Q))
     variable-equal π ρ P Q X p q a b = (
       λ e. raised-of P Q X (λ c n. step-suspension τ π ρ X .0 e c (λ k. n (sym (a c) ∙ k ∙ b c))) (disagreement P Q) (λ c n. mem-disagreement P Q c .0 n .1),
@@ -115,7 +123,8 @@ module _ (g : Ground) (variables : ℕ) (named : (n : ℕ) → Named (g .atoms) 
             absurd (n (a c ∙ (image-out P c l ∙ sym (b c ∙ image-out Q c (let i = p .long in let j = q .long in omega arith)))))
 
     did-comes : (s t : Side) → Fits (g .atoms) (g .nodes) s → Fits (g .atoms) (g .nodes) t → {v w : Form Table Side} {x : Step} → Did g bs s t v w x
-        → Shows (g .nodes) (sideTree (g .nodes) s) v → Shows (g .nodes) (sideTree (g .nodes) t) w → TopFits (g .atoms) variables (g .nodes) (s .node) v → TopFits (g .atoms) variables (g .nodes) (t .node) w
+        → Shows (g .nodes) (sideTree (g .nodes) s) v → Shows (g .nodes) (sideTree (g .nodes) t) w → TopFits (g .atoms) variables (g .nodes) (s .node) v
+        → TopFits (g .atoms) variables (g .nodes) (t .node) w
         → Settled bs v → Settled bs w → SidesEqual (g .nodes) ∇ τ (s, t) ↔ Says x
     did-comes s t f k two-units p q i j a b = (λ e. (tt, tt, tt), λ c. rw (p, q) ≈-unit)
     did-comes s t f k same-atoms p q i j a b = (λ e. (tt, tt, tt), λ c. rw (p, q) ≈-atom)
@@ -138,13 +147,29 @@ module _ (g : Ground) (variables : ℕ) (named : (n : ℕ) → Named (g .atoms) 
     did-comes s t f k (right-bound {Q = Q} {Y = Y} n l u o) p q i j a b =
         let x = bound-equal (q .0) Q Y s (j .0) (q .2) f in rw (q .1) (λ e. (tt, (x .0 (equal-symmetric e), tt), tt), λ y. equal-symmetric (x .1 (y .1 .0)))
     did-comes s t f k (left-inside {X = X} {w = w} n u o) p q i j a b =
-        rw (p .1) (inside-refused (p .0) X (sideTree (g .nodes) t) (occursIn-true X (substitute σ (sideTree (g .nodes) t)) o) (not-root (sideTree (g .nodes) t) X (root w) q b n), λ c. absurd c)
+        rw (p .1) (
+          inside-refused (p .0) X (sideTree (g .nodes) t) (occursIn-true X (substitute σ (sideTree (g .nodes) t)) o)
+              (not-root (sideTree (g .nodes) t) X (root w) q b n),
+          λ c. absurd c,
+        )
     did-comes s t f k (right-inside {v = v} {Y = Y} n l u o) p q i j a b =
-        rw (q .1) (λ e. inside-refused (q .0) Y (sideTree (g .nodes) s) (occursIn-true Y (substitute σ (sideTree (g .nodes) s)) o) (not-root (sideTree (g .nodes) s) Y (root v) p a n) (equal-symmetric e), λ c. absurd c)
+        rw (q .1) (
+          λ e. inside-refused (q .0) Y (sideTree (g .nodes) s) (occursIn-true Y (substitute σ (sideTree (g .nodes) s)) o)
+              (not-root (sideTree (g .nodes) s) Y (root v) p a n) (equal-symmetric e),
+          λ c. absurd c,
+        )
     did-comes s t f k (left-protected {P = P} {X = X} {w = w} n u) p q i j a b =
-        rw (p .1) (protected-refused τ (p .0) X (sideTree (g .nodes) t) (left X u (a P X refl)) (λ e. n (sym (shows-form (g .nodes) (sideTree (g .nodes) t) w q) ∙ e)), λ c. absurd c)
+        rw (p .1) (
+          protected-refused τ (p .0) X (sideTree (g .nodes) t) (left X u (a P X refl))
+              (λ e. n (sym (shows-form (g .nodes) (sideTree (g .nodes) t) w q) ∙ e)),
+          λ c. absurd c,
+        )
     did-comes s t f k (right-protected {v = v} {Q = Q} {Y = Y} n u) p q i j a b =
-        rw (q .1) (λ e. protected-refused τ (q .0) Y (sideTree (g .nodes) s) (left Y u (b Q Y refl)) (λ e. n (sym (shows-form (g .nodes) (sideTree (g .nodes) s) v p) ∙ e)) (equal-symmetric e), λ c. absurd c)
+        rw (q .1) (
+          λ e. protected-refused τ (q .0) Y (sideTree (g .nodes) s) (left Y u (b Q Y refl))
+              (λ e. n (sym (shows-form (g .nodes) (sideTree (g .nodes) s) v p) ∙ e)) (equal-symmetric e),
+          λ c. absurd c,
+        )
     did-comes s t f k (both-protected {P = P} {Q = Q} {X = X} {Y = Y} n u l) p q i j a b =
         rw (p .1, q .1) (two-protected-refused τ (p .0) (q .0) X Y (left X u (a P X refl)) (left Y l (b Q Y refl)) n, λ c. absurd c)
     did-comes s t f k (different-forms {v = v} {w = w} n l d) p q i j a b =

@@ -7,12 +7,14 @@ use mathlib.Core.List.{List, _++_, map, List·Memᴰ}
 use mathlib.Core.Option.{none, some}
 use Rattle.nominal.specs.Tree.{variable, Occurs, Substitution, substitute}
 use Rattle.nominal.specs.Figure2.{_⊢_#_, _⊢_≈_}
-use Rattle.nominal.specs.Solutions.{Every, Facts, given, Allowance, Allowed, protecting, Demand, Equation, Solves, Answer, EquallyGeneral, Answers, Idempotent, Unbound, Problem as TreeProblem}
+use Rattle.nominal.specs.Solutions.{Every, Facts, environmentOf, Allowance, Allowed, protecting, TreeDemand, TreeEquation, Solves, Answer, EquallyGeneral}
+use Rattle.nominal.specs.Solutions.{Answers, Idempotent}
+use Rattle.nominal.specs.Solutions.{Unbound, TreeProblem as TreeProblem}
 use Rattle.problem.specs.Problem.{Node, Problem}
 use Rattle.problem.specs.Reader.{read, reading, baseTags}
 use Rattle.run.specs.Meaning.{Fact, tree, Side, sideTree, Binding, meaning}
 use Rattle.run.specs.Run.{valueOf}
-use Rattle.run.specs.Answer.{askedFresh, askedAssumed, assumedFacts, answerBytes, Verdict, accepted, refusal, Result, written, Judgement}
+use Rattle.run.specs.Answer.{askedFresh, askedAssumed, assumedFacts, answerBytes, Verdict, accepted, refusal, Result, written, Judgement, NoSolution}
 
 -- A problem's demands (21, 22) and equations, as trees.
 abbrev pub asked : Problem → TreeProblem
@@ -34,12 +36,12 @@ answerOf p bs fs = record { facts = fs; substitution = meaning (p .nodes) bs }
 
 -- No allowed pair solves the problem.
 abbrev pub Unsolvable : Allowance → Problem → Type 0
-Unsolvable A p = (F : Facts) (τ : Substitution) → Allowed A F τ → Solves (given F) τ (asked p) → ⊥
+Unsolvable A p = (F : Facts) (τ : Substitution) → Allowed A F τ → Solves (environmentOf F) τ (asked p) → ⊥
 
--- Demand 3, of a verdict: accepted, the allowed solutions are exactly the allowed instances of the answer; refused with 9 to 12, there is none.
+-- Demand 3, of a verdict: accepted, the allowed solutions are exactly the allowed instances of the answer; refused by such a number, there is none.
 abbrev pub Promised : Allowance → Problem → Verdict → Type 0
 Promised A p (accepted steps bs fs) = Answers A (asked p) (answerOf p bs fs)
-Promised A p (refusal n o) = 9 ≤ n → n ≤ 12 → Unsolvable A p
+Promised A p (refusal n o) = NoSolution n → Unsolvable A p
 
 -- "The bindings' meaning is to replace bound variables until none is left. No value contains its own variable." The four hold of one substitution only.
 pub record Replaces (nodes : List Node) (bs : List Binding) (σ : Substitution) : Type 0 where
@@ -51,7 +53,7 @@ pub record Replaces (nodes : List Node) (bs : List Binding) (σ : Substitution) 
 -- An accepted answer by itself: it solves its problem, it is allowed, and its substitution is what document 01 says of its bindings, and done twice is
 -- itself; each of its facts is about an unbound variable.
 pub record Proper (p : Problem) (bs : List Binding) (fs : List Fact) : Type 0 where
-  pub solves : Solves (given fs) (meaning (p .nodes) bs) (asked p)
+  pub solves : Solves (environmentOf fs) (meaning (p .nodes) bs) (asked p)
   pub allowed : Allowed (allowance p) fs (meaning (p .nodes) bs)
   pub replaces : Replaces (p .nodes) bs (meaning (p .nodes) bs)
   pub only : (τ : Substitution) → Replaces (p .nodes) bs τ → (X : ℕ) → τ X ≡ meaning (p .nodes) bs X
@@ -60,8 +62,8 @@ pub record Proper (p : Problem) (bs : List Binding) (fs : List Fact) : Type 0 wh
 
 -- The same demands, in another order or listed twice.
 pub record SameDemands (p q : Problem) : Type 0 where
-  pub demands : (d : Demand) → List·Memᴰ d (asked p .demands) ↔ List·Memᴰ d (asked q .demands)
-  pub equations : (e : Equation) → List·Memᴰ e (asked p .equations) ↔ List·Memᴰ e (asked q .equations)
+  pub demands : (d : TreeDemand) → List·Memᴰ d (asked p .demands) ↔ List·Memᴰ d (asked q .demands)
+  pub equations : (e : TreeEquation) → List·Memᴰ e (asked p .equations) ↔ List·Memᴰ e (asked q .equations)
   pub protected : (X : ℕ) → IsProtected p X ↔ IsProtected q X
 
 -- Both are accepted, with answers that are equally general, or both refused, unless a limit is reached.
@@ -74,8 +76,8 @@ Agree p q (refusal n o) (refusal m i) = Unit {0}
 -- "003's figure 2 derives every equation and every freshness field from the assumptions."
 abbrev pub Derives : Problem → Type 0
 Derives p =
-    Every (λ e. given (assumedFacts (p .assumptions)) ⊢ tree (p .nodes) (e .left) ≈ tree (p .nodes) (e .right)) (p .equations)
-    × Every (λ d. given (assumedFacts (p .assumptions)) ⊢ d .atom # tree (p .nodes) (d .node)) (p .freshness)
+    Every (λ e. environmentOf (assumedFacts (p .assumptions)) ⊢ tree (p .nodes) (e .left) ≈ tree (p .nodes) (e .right)) (p .equations)
+    × Every (λ d. environmentOf (assumedFacts (p .assumptions)) ⊢ d .atom # tree (p .nodes) (d .node)) (p .freshness)
 
 -- The solver, from bytes to its result. An acceptance, with room for the answer or without it: a problem was read, and the answer whose bytes are
 -- written is the one that it is to get.

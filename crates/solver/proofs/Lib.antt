@@ -1,4 +1,4 @@
 pub mod Reading
 pub mod Protection
-pub mod Running
-pub mod Beginning
+pub mod Runs
+pub mod Ended

@@ -2,19 +2,24 @@
 -- So a set of variables serves as the definition's protection, also where the judge protects every variable.
 use Prim.Native.Nat.{ℕ, zero, suc, _<_}
 use native.Mathlib.Omega.{arith}
-use mathlib.Core.Path.{_≡_, refl, sym, _∙_, ap, subst}
+use mathlib.Core.Path.{_≡_, refl, _∙_, ap}
 use mathlib.Core.Bool.{Bool, cond}
 use mathlib.Core.List.{List, [], _∷_, _++_}
 use mathlib.Core.Option.{Option, none, some}
 use lib.ListN.{length}
-use lib.Dec.{eqb}
 use Rattle.permutation.specs.Table.{Table}
 use Rattle.problem.specs.Problem.{Form, unit-form, atom-form, abstraction-form, pair-form, application-form, suspension-form, Node, formAt}
 use Rattle.problem.specs.Readable.{Named}
 use Rattle.run.specs.Meaning.{Side, Binding}
-use Rattle.run.specs.Run.{Equation, Demand, Ground, permuted, top, valueOf, under, replacement, replaced, resolvedIn, resolved, Step, refuses, goes-on, bound, oneVariable, twoVariables, protection, rule, step, End, pending, bindings, demands, next, run}
+use Rattle.run.specs.Run.{Equation, Demand, Ground, permuted, top, valueOf, under, replacement, replaced, resolvedIn, resolved}
+use Rattle.run.specs.Run.{Step, refuses, goes-on, bound, oneVariable, twoVariables, protection, fitting, rule, step}
+use Rattle.run.specs.Tops.{Tops, two-suspensions, left-suspension, right-suspension}
+use Rattle.run.proofs.Tops.{View, of-suspensions, on-the-left, on-the-right, of-units, of-atoms, of-abstractions, of-pairs, of-applications, of-different}
+use Rattle.run.proofs.Tops.{view}
+use Rattle.run.specs.Run.{End, pending, bindings, demands, next, run}
 
-module _ (atoms : ℕ) (nodes : List Node) (variables : ℕ) (named : (n : ℕ) → Named atoms variables n (formAt nodes n)) (f h : ℕ → Bool) (agree : (X : ℕ) → X < variables → f X ≡ h X) where
+module _ (atoms : ℕ) (nodes : List Node) (variables : ℕ) (named : (n : ℕ) → Named atoms variables n (formAt nodes n)) (f h : ℕ → Bool)
+    (agree : (X : ℕ) → X < variables → f X ≡ h X) where
   abbrev G : Ground
   G = record { atoms = atoms; nodes = nodes; protected = f }
 
@@ -48,59 +53,36 @@ module _ (atoms : ℕ) (nodes : List Node) (variables : ℕ) (named : (n : ℕ) 
   resolved-alike : (k : ℕ) (bs : List Binding) (s : Side) → resolvedIn k G bs s ≡ resolvedIn k H bs s
   unfolding resolvedIn top
   resolved-alike zero bs s = refl
-  resolved-alike (suc k) bs s = replaced-alike bs s (permuted atoms (s .images) (formAt nodes (s .node))) (resolvedIn k G bs) (resolvedIn k H bs) (λ t. resolved-alike k bs t)
+  resolved-alike (suc k) bs s =
+      replaced-alike bs s (permuted atoms (s .images) (formAt nodes (s .node))) (resolvedIn k G bs) (resolvedIn k H bs) (λ t. resolved-alike k bs t)
 
   module _ (bs : List Binding) where
     one-alike : (P : Table) (X : ℕ) (t : Side) → f X ≡ h X → oneVariable G bs P X t ≡ oneVariable H bs P X t
     unfolding oneVariable bound
     one-alike P X t e = ap (λ (b : Bool). cond b (refuses protection) (bound H bs P X t)) e
 
-    two-alike : (P : Table) (X : ℕ) (s : Side) (Q : Table) (Y : ℕ) (t : Side) → f X ≡ h X → f Y ≡ h Y → twoVariables G bs P X s Q Y t ≡ twoVariables H bs P X s Q Y t
+    two-alike : (P : Table) (X : ℕ) (s : Side) (Q : Table) (Y : ℕ) (t : Side) → f X ≡ h X → f Y ≡ h Y
+        → twoVariables G bs P X s Q Y t ≡ twoVariables H bs P X s Q Y t
     unfolding twoVariables bound
     two-alike P X s Q Y t e k = rw (e, one-alike Q Y s k)
 
-    rule-alike : (s t : Side) (v w : Form Table Side) → ((P : Table) (X : ℕ) → v ≡ suspension-form P X → f X ≡ h X) → ((Q : Table) (Y : ℕ) → w ≡ suspension-form Q Y → f Y ≡ h Y)
-        → rule G bs s t v w ≡ rule H bs s t v w
-    rule-alike s t unit-form unit-form i j = refl
-    rule-alike s t unit-form (atom-form b) i j = refl
-    rule-alike s t unit-form (abstraction-form b v) i j = refl
-    rule-alike s t unit-form (pair-form m n) i j = refl
-    rule-alike s t unit-form (application-form q v) i j = refl
-    rule-alike s t unit-form (suspension-form Q Y) i j = one-alike Q Y s (j Q Y refl)
-    rule-alike s t (atom-form a) unit-form i j = refl
-    rule-alike s t (atom-form a) (atom-form b) i j = refl
-    rule-alike s t (atom-form a) (abstraction-form b v) i j = refl
-    rule-alike s t (atom-form a) (pair-form m n) i j = refl
-    rule-alike s t (atom-form a) (application-form q v) i j = refl
-    rule-alike s t (atom-form a) (suspension-form Q Y) i j = one-alike Q Y s (j Q Y refl)
-    rule-alike s t (abstraction-form a u) unit-form i j = refl
-    rule-alike s t (abstraction-form a u) (atom-form b) i j = refl
-    rule-alike s t (abstraction-form a u) (abstraction-form b v) i j = refl
-    rule-alike s t (abstraction-form a u) (pair-form m n) i j = refl
-    rule-alike s t (abstraction-form a u) (application-form q v) i j = refl
-    rule-alike s t (abstraction-form a u) (suspension-form Q Y) i j = one-alike Q Y s (j Q Y refl)
-    rule-alike s t (pair-form l r) unit-form i j = refl
-    rule-alike s t (pair-form l r) (atom-form b) i j = refl
-    rule-alike s t (pair-form l r) (abstraction-form b v) i j = refl
-    rule-alike s t (pair-form l r) (pair-form m n) i j = refl
-    rule-alike s t (pair-form l r) (application-form q v) i j = refl
-    rule-alike s t (pair-form l r) (suspension-form Q Y) i j = one-alike Q Y s (j Q Y refl)
-    rule-alike s t (application-form k u) unit-form i j = refl
-    rule-alike s t (application-form k u) (atom-form b) i j = refl
-    rule-alike s t (application-form k u) (abstraction-form b v) i j = refl
-    rule-alike s t (application-form k u) (pair-form m n) i j = refl
-    rule-alike s t (application-form k u) (application-form q v) i j = refl
-    rule-alike s t (application-form k u) (suspension-form Q Y) i j = one-alike Q Y s (j Q Y refl)
-    rule-alike s t (suspension-form P X) unit-form i j = one-alike P X t (i P X refl)
-    rule-alike s t (suspension-form P X) (atom-form b) i j = one-alike P X t (i P X refl)
-    rule-alike s t (suspension-form P X) (abstraction-form b v) i j = one-alike P X t (i P X refl)
-    rule-alike s t (suspension-form P X) (pair-form m n) i j = one-alike P X t (i P X refl)
-    rule-alike s t (suspension-form P X) (application-form q v) i j = one-alike P X t (i P X refl)
-    rule-alike s t (suspension-form P X) (suspension-form Q Y) i j = two-alike P X s Q Y t (i P X refl) (j Q Y refl)
+    abbrev Agree : Form Table Side → Type 0
+    Agree v = (P : Table) (X : ℕ) → v ≡ suspension-form P X → f X ≡ h X
+
+    fitting-alike : (s t : Side) {v w : Form Table Side} {x : Tops Table Side} → View v w x → Agree v → Agree w → fitting G bs s t x ≡ fitting H bs s t x
+    fitting-alike s t {x = two-suspensions P X Q Y} of-suspensions i j = two-alike P X s Q Y t (i P X refl) (j Q Y refl)
+    fitting-alike s t {x = left-suspension P X} (on-the-left n) i j = one-alike P X t (i P X refl)
+    fitting-alike s t {x = right-suspension Q Y} (on-the-right n) i j = one-alike Q Y s (j Q Y refl)
+    fitting-alike s t of-units i j = refl
+    fitting-alike s t of-atoms i j = refl
+    fitting-alike s t of-abstractions i j = refl
+    fitting-alike s t of-pairs i j = refl
+    fitting-alike s t of-applications i j = refl
+    fitting-alike s t (of-different l m n) i j = refl
 
     rule-tops : (s t : Side) → rule G bs s t (top G s) (top G t) ≡ rule H bs s t (top H s) (top H t)
     unfolding top
-    rule-tops s t = rule-alike s t (top G s) (top G t) (top-agrees s) (top-agrees t)
+    rule-tops s t = fitting-alike s t (view (top G s) (top G t)) (top-agrees s) (top-agrees t)
 
     step-alike : (l r : Side) → step G bs l r ≡ step H bs l r
     unfolding step resolved
@@ -109,7 +91,8 @@ module _ (atoms : ℕ) (nodes : List Node) (variables : ℕ) (named : (n : ℕ) 
         ∙ ap (λ (s : Side). rule H bs s (resolvedIn (length bs) G bs r) (top H s) (top H (resolvedIn (length bs) G bs r))) (resolved-alike (length bs) bs l)
         ∙ ap (λ (t : Side). rule H bs (resolvedIn (length bs) H bs l) t (top H (resolvedIn (length bs) H bs l)) (top H t)) (resolved-alike (length bs) bs r)
 
-  next-alike : (x y : List Equation → List Binding → List Demand → End) → ((es : List Equation) (bs : List Binding) (ds : List Demand) → x es bs ds ≡ y es bs ds)
+  next-alike : (x y : List Equation → List Binding → List Demand → End)
+      → ((es : List Equation) (bs : List Binding) (ds : List Demand) → x es bs ds ≡ y es bs ds)
       → (n : ℕ) (es : List Equation) (bs : List Binding) (ds : List Demand) (z : Step) → next x n es bs ds z ≡ next y n es bs ds z
   next-alike x y k n es bs ds (refuses r) = refl
   next-alike x y k n es bs ds (goes-on qs b d) = k (pending n qs ++ es) (bs ++ bindings n b) (ds ++ demands n d)
@@ -120,5 +103,6 @@ module _ (atoms : ℕ) (nodes : List Node) (variables : ℕ) (named : (n : ℕ) 
   run-alike zero (e ∷ es) bs ds = refl
   run-alike (suc k) [] bs ds = refl
   run-alike (suc k) (e ∷ es) bs ds =
-      next-alike (λ es′ bs′ ds′. run G k es′ bs′ ds′) (λ es′ bs′ ds′. run H k es′ bs′ ds′) (λ es′ bs′ ds′. run-alike k es′ bs′ ds′) (e .number) es bs ds (step G bs (e .left) (e .right))
+      next-alike (λ es′ bs′ ds′. run G k es′ bs′ ds′) (λ es′ bs′ ds′. run H k es′ bs′ ds′) (λ es′ bs′ ds′. run-alike k es′ bs′ ds′) (e .number) es bs ds
+      (step G bs (e .left) (e .right))
       ∙ ap (next (λ es′ bs′ ds′. run H k es′ bs′ ds′) (e .number) es bs ds) (step-alike bs (e .left) (e .right))

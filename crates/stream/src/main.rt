@@ -11,6 +11,16 @@ ghost use Rattle.printer.specs.Placed.{Placed};
 ghost use Rattle.stream.specs.Block.{block};
 ghost use Rattle.stream.specs.Came.{Told};
 ghost use Rattle.stream.specs.Turned.{Turned, Handed, Settled, Ends};
+use solver::tables::Asked;
+use solver::tables::Assumed;
+use solver::tables::Firsts;
+use solver::tables::Heads;
+use solver::tables::Images;
+use solver::tables::Made;
+use solver::tables::Marks;
+use solver::tables::NodeVariables;
+use solver::tables::Places;
+use solver::tables::Values;
 
 // How the next problem came: whole, in so many of the lent bytes; the stream ended before it, or inside its length or its bytes; a read failed.
 enum Came {
@@ -152,26 +162,16 @@ fn worked(
     input: &[u8],
     output: &mut [u8],
     out: &mut [u8],
-    places: &mut [u16; 512],
-    equation_places: &mut [u16; 64],
-    fresh_places: &mut [u16; 64],
-    assumed: &mut [u32; 64],
-    node_variables: &mut [u64; 512],
-    numbers: &mut [u8; 576],
-    lefts: &mut [u16; 576],
-    rights: &mut [u16; 576],
-    left_images: &mut [u8; 18432],
-    right_images: &mut [u8; 18432],
-    order: &mut [u8; 64],
-    roots: &mut [u16; 64],
-    value_images: &mut [u8; 2048],
-    made_by: &mut [u8; 64],
-    asked_nodes: &mut [u32; 512],
-    first_nodes: &mut [u8; 16384],
-    asked_variables: &mut [u32; 64],
-    first_variables: &mut [u8; 2048],
-    seen: &mut [u32; 512],
-    done: &mut [u32; 64],
+    places: &mut Places,
+    assumed: &mut Assumed,
+    node_variables: &mut NodeVariables,
+    heads: &mut Heads,
+    images: &mut Images,
+    made: &mut Made,
+    values: &mut Values,
+    asked: &mut Asked,
+    firsts: &mut Firsts,
+    marks: &mut Marks,
 ) -> usize
     requires { ⌜ 4 * length (now output) + 67 ≤ length (now out) ⌝ }
     ensures { λ r. ⌜ take r (now (out .exit)) ≡ block (now (input .entry)) (now (output .entry)) ⌝ }
@@ -181,48 +181,28 @@ fn worked(
         input,
         output,
         places,
-        equation_places,
-        fresh_places,
         assumed,
         node_variables,
-        numbers,
-        lefts,
-        rights,
-        left_images,
-        right_images,
-        order,
-        roots,
-        value_images,
-        made_by,
-        asked_nodes,
-        first_nodes,
-        asked_variables,
-        first_variables,
-        seen,
-        done,
+        heads,
+        images,
+        made,
+        values,
+        asked,
+        firsts,
+        marks,
     );
     let judgement = solver::entries::judge_with(
         input,
         places,
-        equation_places,
-        fresh_places,
         assumed,
         node_variables,
-        numbers,
-        lefts,
-        rights,
-        left_images,
-        right_images,
-        order,
-        roots,
-        value_images,
-        made_by,
-        asked_nodes,
-        first_nodes,
-        asked_variables,
-        first_variables,
-        seen,
-        done,
+        heads,
+        images,
+        made,
+        values,
+        asked,
+        firsts,
+        marks,
     );
     let v = numbers::of_verdict(verdict);
     let j = numbers::of_judgement(judgement);
@@ -234,26 +214,16 @@ fn turn(
     input: &mut [u8],
     output: &mut [u8],
     out: &mut [u8],
-    places: &mut [u16; 512],
-    equation_places: &mut [u16; 64],
-    fresh_places: &mut [u16; 64],
-    assumed: &mut [u32; 64],
-    node_variables: &mut [u64; 512],
-    numbers: &mut [u8; 576],
-    lefts: &mut [u16; 576],
-    rights: &mut [u16; 576],
-    left_images: &mut [u8; 18432],
-    right_images: &mut [u8; 18432],
-    order: &mut [u8; 64],
-    roots: &mut [u16; 64],
-    value_images: &mut [u8; 2048],
-    made_by: &mut [u8; 64],
-    asked_nodes: &mut [u32; 512],
-    first_nodes: &mut [u8; 16384],
-    asked_variables: &mut [u32; 64],
-    first_variables: &mut [u8; 2048],
-    seen: &mut [u32; 512],
-    done: &mut [u32; 64],
+    places: &mut Places,
+    assumed: &mut Assumed,
+    node_variables: &mut NodeVariables,
+    heads: &mut Heads,
+    images: &mut Images,
+    made: &mut Made,
+    values: &mut Values,
+    asked: &mut Asked,
+    firsts: &mut Firsts,
+    marks: &mut Marks,
 ) -> Outcome
     requires { ⌜ 4 ≤ length (now input) ⌝ }
     requires { ⌜ 4 * length (now output) + 67 ≤ length (now out) ⌝ }
@@ -273,25 +243,15 @@ fn turn(
         output,
         out,
         places,
-        equation_places,
-        fresh_places,
         assumed,
         node_variables,
-        numbers,
-        lefts,
-        rights,
-        left_images,
-        right_images,
-        order,
-        roots,
-        value_images,
-        made_by,
-        asked_nodes,
-        first_nodes,
-        asked_variables,
-        first_variables,
-        seen,
-        done,
+        heads,
+        images,
+        made,
+        values,
+        asked,
+        firsts,
+        marks,
     );
     let taken = outlet::put(1, &out[..end]);
     Outcome {
@@ -346,26 +306,16 @@ fn all(
     input: &mut [u8],
     output: &mut [u8],
     out: &mut [u8],
-    places: &mut [u16; 512],
-    equation_places: &mut [u16; 64],
-    fresh_places: &mut [u16; 64],
-    assumed: &mut [u32; 64],
-    node_variables: &mut [u64; 512],
-    numbers: &mut [u8; 576],
-    lefts: &mut [u16; 576],
-    rights: &mut [u16; 576],
-    left_images: &mut [u8; 18432],
-    right_images: &mut [u8; 18432],
-    order: &mut [u8; 64],
-    roots: &mut [u16; 64],
-    value_images: &mut [u8; 2048],
-    made_by: &mut [u8; 64],
-    asked_nodes: &mut [u32; 512],
-    first_nodes: &mut [u8; 16384],
-    asked_variables: &mut [u32; 64],
-    first_variables: &mut [u8; 2048],
-    seen: &mut [u32; 512],
-    done: &mut [u32; 64],
+    places: &mut Places,
+    assumed: &mut Assumed,
+    node_variables: &mut NodeVariables,
+    heads: &mut Heads,
+    images: &mut Images,
+    made: &mut Made,
+    values: &mut Values,
+    asked: &mut Asked,
+    firsts: &mut Firsts,
+    marks: &mut Marks,
 ) -> Ending
     requires { ⌜ 4 ≤ length (now input) ⌝ }
     requires { ⌜ 4 * length (now output) + 67 ≤ length (now out) ⌝ }
@@ -382,25 +332,15 @@ fn all(
             output,
             out,
             places,
-            equation_places,
-            fresh_places,
             assumed,
             node_variables,
-            numbers,
-            lefts,
-            rights,
-            left_images,
-            right_images,
-            order,
-            roots,
-            value_images,
-            made_by,
-            asked_nodes,
-            first_nodes,
-            asked_variables,
-            first_variables,
-            seen,
-            done,
+            heads,
+            images,
+            made,
+            values,
+            asked,
+            firsts,
+            marks,
         );
         ending = settled(turned, count, out);
         let how = ending.how;
@@ -431,26 +371,16 @@ fn tell(how: How) {
 }
 
 fn main() {
-    let mut places: [u16; 512] = [0; 512];
-    let mut equation_places: [u16; 64] = [0; 64];
-    let mut fresh_places: [u16; 64] = [0; 64];
-    let mut assumed: [u32; 64] = [0; 64];
-    let mut node_variables: [u64; 512] = [0; 512];
-    let mut numbers: [u8; 576] = [0; 576];
-    let mut lefts: [u16; 576] = [0; 576];
-    let mut rights: [u16; 576] = [0; 576];
-    let mut left_images: [u8; 18432] = [0; 18432];
-    let mut right_images: [u8; 18432] = [0; 18432];
-    let mut order: [u8; 64] = [0; 64];
-    let mut roots: [u16; 64] = [0; 64];
-    let mut value_images: [u8; 2048] = [0; 2048];
-    let mut made_by: [u8; 64] = [0; 64];
-    let mut asked_nodes: [u32; 512] = [0; 512];
-    let mut first_nodes: [u8; 16384] = [0; 16384];
-    let mut asked_variables: [u32; 64] = [0; 64];
-    let mut first_variables: [u8; 2048] = [0; 2048];
-    let mut seen: [u32; 512] = [0; 512];
-    let mut done: [u32; 64] = [0; 64];
+    let mut places = solver::tables::EMPTY_PLACES;
+    let mut assumed = solver::tables::EMPTY_ASSUMED;
+    let mut node_variables = solver::tables::EMPTY_NODE_VARIABLES;
+    let mut heads = solver::tables::EMPTY_HEADS;
+    let mut images = solver::tables::EMPTY_IMAGES;
+    let mut made = solver::tables::EMPTY_MADE;
+    let mut values = solver::tables::EMPTY_VALUES;
+    let mut asked = solver::tables::EMPTY_ASKED;
+    let mut firsts = solver::tables::EMPTY_FIRSTS;
+    let mut marks = solver::tables::EMPTY_MARKS;
     let mut input = io::large_buffer();
     let mut output = [0u8; 16384];
     let mut out = [0u8; 65664];
@@ -459,25 +389,15 @@ fn main() {
         &mut output,
         &mut out,
         &mut places,
-        &mut equation_places,
-        &mut fresh_places,
         &mut assumed,
         &mut node_variables,
-        &mut numbers,
-        &mut lefts,
-        &mut rights,
-        &mut left_images,
-        &mut right_images,
-        &mut order,
-        &mut roots,
-        &mut value_images,
-        &mut made_by,
-        &mut asked_nodes,
-        &mut first_nodes,
-        &mut asked_variables,
-        &mut first_variables,
-        &mut seen,
-        &mut done,
+        &mut heads,
+        &mut images,
+        &mut made,
+        &mut values,
+        &mut asked,
+        &mut firsts,
+        &mut marks,
     );
     let how = ending.how;
     tell(how);

@@ -2,39 +2,60 @@
 use Prim.Native.Nat.{ℕ, _+_, _-_, _≤_}
 use native.Mathlib.Omega.{arith}
 use mathlib.Core.Path.{_≡_, sym, ap, _∙_}
+use mathlib.Core.List.{List}
 use lib.ListN.{length}
 use lib.Count.{ones}
 use borrow.Author.Needs.{needs}
 use Rattle.sets.specs.Bits.{count}
-use Rattle.answer.specs.Facts.{factsFrom, factsIn}
-use Rattle.answer.proofs.Facts.{count-here, from-end, from-start, few-facts}
+use Rattle.run.specs.Meaning.{Fact}
+use Rattle.answer.specs.Facts.{factsIn}
+use Rattle.answer.proofs.Facts.{factsOnward, count-here, onward-end, onward-start, few-facts}
 use Rattle.answer.proofs.count_facts.Statement.{statement}
 use Rattle.answer.proofs.count_facts.Tie as tie
 
 abbrev Inv-loop : tie.InvT-loop
-Inv-loop asked bound atoms variables n₀ x₀ n x = (x ≤ variables) × (n + length (factsFrom atoms (bound .0) asked x (variables - x)) ≡ length (factsIn atoms variables (bound .0) asked))
+Inv-loop asked bound atoms variables n₀ x₀ n x =
+    (x ≤ variables) × (n + length (factsOnward atoms (bound .0) asked variables x) ≡ length (factsIn atoms variables (bound .0) asked))
 
 abbrev μ-loop : tie.MeasureT-loop
 μ-loop asked bound atoms variables n₀ x₀ n x = variables - x
 
-more : (c : tie.After-fact-set Inv-loop μ-loop) → ones (c .fact-set .result .0) + length (factsFrom (c .before .before .before .before .args .atoms) (c .before .before .before .before .args .bound .0) (c .before .before .before .before .args .asked .now) (c .before .before .loop .x + 1) (c .before .before .before .before .args .variables - (c .before .before .loop .x + 1))) ≡ length (factsFrom (c .before .before .before .before .args .atoms) (c .before .before .before .before .args .bound .0) (c .before .before .before .before .args .asked .now) (c .before .before .loop .x) (c .before .before .before .before .args .variables - c .before .before .loop .x))
-unfolding count
-more c =
-    let a = c .before .before .before .before .args in
-    ap (λ (w : ℕ). ones w + length (factsFrom (a .atoms) (a .bound .0) (a .asked .now) (c .before .before .loop .x + 1) (a .variables - (c .before .before .loop .x + 1)))) (c .fact-set .ensures)
-    ∙ sym (count-here (a .atoms) (a .bound .0) (a .asked .now) (a .variables) (c .before .before .loop .x) (omega arith))
+module _ (start : tie.Start Inv-loop μ-loop) where
+  -- The facts of the variables from x on.
+  abbrev onward : ℕ → List Fact
+  onward x = factsOnward (start .args .atoms) (start .args .bound .0) (start .args .asked .now) (start .args .variables) x
+
+  all-few : length (factsIn (start .args .atoms) (start .args .variables) (start .args .bound .0) (start .args .asked .now)) ≤ 2048
+  all-few = few-facts (start .args .atoms) (start .args .variables) (start .args .bound .0) (start .args .asked .now) (start .pre .0)
+
+-- In a turn: this variable's facts, with those after it, are those that were left.
+module _ (c : tie.After-fact-set Inv-loop μ-loop) where
+  abbrev start : tie.Start Inv-loop μ-loop
+  start = c .before .before .before .before
+
+  abbrev x : ℕ
+  x = c .before .before .loop .x
+
+  facts-here : ones (c .fact-set .result .0) + length (onward start (x + 1)) ≡ length (onward start x)
+  unfolding count
+  facts-here =
+      let a = start .args in
+      ap (λ (w : ℕ). ones w + length (onward start (x + 1))) (c .fact-set .ensures)
+      ∙ sym (count-here (a .atoms) (a .bound .0) (a .asked .now) (a .variables) x (omega arith))
 
 loop-holds : tie.Need-loop-holds Inv-loop μ-loop
-loop-holds c = let a = c .before .args in (search needs, omega (arith, ap length (from-start (a .atoms) (a .bound .0) (a .asked .now) (a .variables))))
+loop-holds c =
+    let a = c .before .args in
+    (search needs, omega (arith, ap length (onward-start (a .atoms) (a .bound .0) (a .asked .now) (a .variables))))
 
 fact-set-requires : tie.Need-fact-set-requires Inv-loop μ-loop
 fact-set-requires c κs = search needs
 
 cast-n : tie.Need-cast-n Inv-loop μ-loop
-cast-n c = let a = c .before .before .before .before .before .args in omega (arith, more (c .before), few-facts (a .atoms) (a .variables) (a .bound .0) (a .asked .now) (c .before .before .before .before .before .pre .0))
+cast-n c = omega (arith, facts-here (c .before), all-few (start (c .before)))
 
 add-n : tie.Need-add-n Inv-loop μ-loop
-add-n c = let a = c .before .before .before .before .before .args in omega (arith, more (c .before), few-facts (a .atoms) (a .variables) (a .bound .0) (a .asked .now) (c .before .before .before .before .before .pre .0))
+add-n c = omega (arith, facts-here (c .before), all-few (start (c .before)))
 
 add-x : tie.Need-add-x Inv-loop μ-loop
 add-x c = search needs
@@ -43,10 +64,13 @@ loop-less : tie.Need-loop-less Inv-loop μ-loop
 loop-less c = search needs
 
 loop-again : tie.Need-loop-again Inv-loop μ-loop
-loop-again c = (search needs, omega (arith, more (c .before)))
+loop-again c = (search needs, omega (arith, facts-here (c .before)))
 
 returns : tie.Need-returns Inv-loop μ-loop
-returns c = let a = c .before .before .before .args in omega (arith, ap length (from-end (a .atoms) (a .bound .0) (a .asked .now) (a .variables) (c .before .loop .x) (omega arith)))
+returns c =
+    let in-loop = c .before in
+    let a = in-loop .before .before .args in
+    omega (arith, ap length (onward-end (a .atoms) (a .bound .0) (a .asked .now) (a .variables) (in-loop .loop .x) (omega arith)))
 
 pub count-facts-spec : {M : Type 1} → statement M
 count-facts-spec =

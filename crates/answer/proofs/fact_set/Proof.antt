@@ -1,4 +1,4 @@
--- `fact_set` meets its contract.
+-- `fact_set` meets its contract, for a bound variable and for another.
 use Prim.Native.Nat.{ℕ}
 use mathlib.Core.Path.{sym, ap, _∙_}
 use lib.ListN.{getD}
@@ -18,7 +18,11 @@ empty-requires : tie.Need-empty-requires
 empty-requires c κs = search needs
 
 returns : tie.Need-returns
-returns c = let a = c .before .before .before .before .args in c .empty .ensures ∙ factSet-bound (a .atoms) (a .bound .0) (a .asked .now) (a .x) (sym (c .before .before .has .ensures) ∙ c .before .if1 .taken)
+returns c =
+    let at-has = c .before .before in
+    let a = at-has .before .before .args in
+    let is-bound = sym (at-has .has .ensures) ∙ c .before .if1 .taken in
+    c .empty .ensures ∙ factSet-bound (a .atoms) (a .bound .0) (a .asked .now) (a .x) is-bound
 
 cast-below-2 : tie.Need-cast-below-2
 cast-below-2 c = search needs
@@ -36,9 +40,14 @@ intersection-requires : tie.Need-intersection-requires
 intersection-requires c κs = search needs
 
 returns-2 : tie.Need-returns-2
-returns-2 c = let a = c .before .before .before .before .before .before .args in
-    c .intersection .ensures ∙ ap (λ (w : ℕ). intersection w (getD (a .asked .now) (a .x) 0)) (c .before .before .below .ensures)
-    ∙ factSet-unbound (a .atoms) (a .bound .0) (a .asked .now) (a .x) (sym (c .before .before .before .before .has .ensures) ∙ c .before .before .before .if1 .left)
+returns-2 c =
+    let at-below = c .before .before in
+    let at-if = at-below .before in
+    let at-has = at-if .before in
+    let a = at-has .before .before .args in
+    let not-bound = sym (at-has .has .ensures) ∙ at-if .if1 .left in
+    c .intersection .ensures ∙ ap (λ (w : ℕ). intersection w (getD (a .asked .now) (a .x) 0)) (at-below .below .ensures)
+    ∙ factSet-unbound (a .atoms) (a .bound .0) (a .asked .now) (a .x) not-bound
 
 pub fact-set-spec : {M : Type 1} → statement M
 fact-set-spec =

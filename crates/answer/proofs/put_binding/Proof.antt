@@ -1,20 +1,18 @@
 -- `put_binding` meets its contract: the field's front, the variable, the node, the images.
 use Prim.Native.Nat.{_+_}
 use native.Mathlib.Omega.{arith}
-use mathlib.Core.Path.{_≡_}
-use lib.ListN.{length}
-use Rattle.permutation.specs.Store.{table}
-use Rattle.permutation.proofs.Store.{length-table}
+use mathlib.Core.Path.{ap}
+use Rattle.field.specs.Field.{bytes2}
+use Rattle.bindings.specs.Bindings.{tables, bindingAt}
+use Rattle.bindings.proofs.Bindings.{length-imagesOf}
 use Rattle.answer.proofs.Writing.{wrote-length, wrote-same, _then_}
-use Rattle.answer.proofs.Answer.{length-two, binding-bytes}
+use Rattle.answer.proofs.Fields.{length-two, binding-parts}
 use borrow.Author.Needs.{needs}
 use Rattle.answer.proofs.put_binding.Statement.{statement}
 use Rattle.answer.proofs.put_binding.Tie as tie
 
-has-atoms : (c : tie.Start) → length (table (c .args .n) (c .args .p)) ≡ c .args .n
-has-atoms c =
-    let l : length (c .args .p .images) ≡ 32 = search needs in
-    length-table (c .args .n) (c .args .p) (omega arith)
+node-of-requires : tie.Need-node-of-requires
+node-of-requires c κs = search needs
 
 cast-put-front : tie.Need-cast-put-front
 cast-put-front c = search needs
@@ -26,26 +24,52 @@ put-front-requires : tie.Need-put-front-requires
 put-front-requires c κs = search needs
 
 put-requires : tie.Need-put-requires
-put-requires c κs = omega (arith, length-two (3 + c .before .before .before .before .before .before .args .n), wrote-length (c .before .before .before .put-front .ensures))
+put-requires c κs =
+    let at-front = c .before .before .before in
+    let n = at-front .before .before .before .before .args .n in
+    omega (arith, length-two (3 + n), wrote-length (at-front .put-front .ensures))
 
 put-two-requires : tie.Need-put-two-requires
-put-two-requires c κs = omega (arith, length-two (3 + c .before .before .before .before .before .before .before .before .before .before .args .n), wrote-length (c .before .before .before .before .before .before .before .put-front .ensures), wrote-length (c .before .before .before .put .ensures))
+put-two-requires c κs =
+    let at-variable = c .before .before .before in
+    let at-front = at-variable .before .before .before .before in
+    let n = at-front .before .before .before .before .args .n in
+    omega (arith, length-two (3 + n), wrote-length (at-front .put-front .ensures), wrote-length (at-variable .put .ensures))
 
 put-images-requires : tie.Need-put-images-requires
-put-images-requires c κs = (search needs, omega (arith, length-two (3 + c .before .before .before .before .before .before .before .before .before .before .before .before .before .before .args .n), length-two (c .before .before .before .before .before .before .before .before .before .before .before .before .before .before .args .node .0), wrote-length (c .before .before .before .before .before .before .before .before .before .before .before .put-front .ensures), wrote-length (c .before .before .before .before .before .before .before .put .ensures), wrote-length (c .before .before .before .put-two .ensures)))
+put-images-requires c κs =
+    let at-node = c .before .before .before in
+    let at-variable = at-node .before .before .before .before in
+    let at-front = at-variable .before .before .before .before in
+    let node-read = at-front .before .before in
+    let n = node-read .before .before .args .n in
+    let front-length = wrote-length (at-front .put-front .ensures) in
+    let variable-length = wrote-length (at-variable .put .ensures) in
+    let node-length = wrote-length (at-node .put-two .ensures) in
+    (search needs, search needs, omega (arith, length-two (3 + n), length-two (node-read .node-of .result .0), front-length, variable-length, node-length))
 
 same-length : tie.Need-same-length
 same-length c = search needs
 
 returns : tie.Need-returns
-returns c = let a = c .before .before .before .before .before .before .before .before .before .before .before .before .before .before .before .before .before .args in
-    wrote-same (binding-bytes (a .x .0) (a .node .0) (a .n) (table (a .n) (a .p)) (has-atoms (c .before .before .before .before .before .before .before .before .before .before .before .before .before .before .before .before .before)))
-    (c .before .before .before .before .before .before .before .before .before .before .before .before .before .before .put-front .ensures then c .before .before .before .before .before .before .before .before .before .before .put .ensures then c .before .before .before .before .before .before .put-two .ensures then c .before .before .put-images .ensures)
+unfolding bindingAt
+returns c =
+    let at-images = c .before .before in
+    let at-node = at-images .before .before .before .before in
+    let at-variable = at-node .before .before .before .before in
+    let at-front = at-variable .before .before .before .before in
+    let node-read = at-front .before .before in
+    let a = node-read .before .before .args in
+    let binding = bindingAt (a .n) (tables (a .made .now) (a .values .now)) (a .x .0) in
+    let node-written = wrote-same (ap bytes2 (node-read .node-of .ensures)) (at-node .put-two .ensures) in
+    wrote-same (binding-parts binding (a .n) (length-imagesOf (a .n) (a .values .now) (a .x .0)))
+    (at-front .put-front .ensures then at-variable .put .ensures then node-written then at-images .put-images .ensures)
 
 pub put-binding-spec : {M : Type 1} → statement M
 put-binding-spec =
     tie.close
     (tie.spec
+    node-of-requires
     cast-put-front
     add-put-front
     put-front-requires

@@ -1,27 +1,60 @@
 -- `put_facts` meets its contract: after x turns the facts of the variables from x on are left.
-use Prim.Native.Nat.{_+_, _-_, _≤_}
+use Prim.Native.Nat.{ℕ, _+_, _-_, _≤_}
 use native.Mathlib.Omega.{arith}
 use mathlib.Core.Path.{sym, ap}
-use mathlib.Core.List.{_++_}
+use mathlib.Core.List.{List, _++_}
+use lib.ListN.{length}
 use borrow.Author.Needs.{needs}
 use Rattle.run.specs.Answer.{factBytes}
-use Rattle.answer.specs.Facts.{factSet, factsFrom, factsIn}
+use Rattle.answer.specs.Facts.{factSet, factsIn, factBytesOf}
 use Rattle.answer.proofs.Writing.{Left, left-all, left-same, left-more, left-room, left-done, wrote-same}
-use Rattle.answer.proofs.Facts.{factsOf, bytes-here, bytes-end, from-start}
+use Rattle.answer.proofs.Facts.{factsOnward, bytes-here, bytes-end, onward-start}
 use Rattle.answer.proofs.put_facts.Statement.{statement}
 use Rattle.answer.proofs.put_facts.Tie as tie
 
 abbrev Inv-loop : tie.InvT-loop
-Inv-loop out₀ at asked bound atoms variables end₀ x₀ out end x = (x ≤ variables) × Left out end (factBytes (factsFrom atoms (bound .0) asked x (variables - x))) out₀ at (factBytes (factsIn atoms variables (bound .0) asked))
+Inv-loop output₀ at asked bound atoms variables end₀ x₀ output end x =
+    (x ≤ variables)
+    × Left output end (factBytes (factsOnward atoms (bound .0) asked variables x)) output₀ at (factBytes (factsIn atoms variables (bound .0) asked))
 
 abbrev μ-loop : tie.MeasureT-loop
-μ-loop out₀ at asked bound atoms variables end₀ x₀ out end x = variables - x
+μ-loop output₀ at asked bound atoms variables end₀ x₀ output end x = variables - x
 
-here : (c : tie.In-loop Inv-loop μ-loop) → Left (c .before .loop .out) (c .before .loop .end) (factsOf (c .before .loop .x) (factSet (c .before .before .before .before .args .atoms) (c .before .before .before .before .args .bound .0) (c .before .before .before .before .args .asked .now) (c .before .loop .x)) ++ factBytes (factsFrom (c .before .before .before .before .args .atoms) (c .before .before .before .before .args .bound .0) (c .before .before .before .before .args .asked .now) (c .before .loop .x + 1) (c .before .before .before .before .args .variables - (c .before .loop .x + 1)))) (c .before .before .before .before .args .out .now) (c .before .before .before .before .args .at) (factBytes (factsIn (c .before .before .before .before .args .atoms) (c .before .before .before .before .args .variables) (c .before .before .before .before .args .bound .0) (c .before .before .before .before .args .asked .now)))
-here c = left-same (bytes-here (c .before .before .before .before .args .atoms) (c .before .before .before .before .args .bound .0) (c .before .before .before .before .args .asked .now) (c .before .before .before .before .args .variables) (c .before .loop .x) (omega arith)) (c .before .loop .inv .1)
+-- In a turn: the facts of this variable and those of the variables after it are left, and there is room for them.
+module _ (c : tie.In-loop Inv-loop μ-loop) where
+  abbrev start : tie.Start Inv-loop μ-loop
+  start = c .before .before .before .before
+
+  abbrev x : ℕ
+  x = c .before .loop .x
+
+  abbrev A : ℕ
+  A = start .args .atoms
+
+  abbrev bound : ℕ
+  bound = start .args .bound .0
+
+  abbrev asked : List ℕ
+  asked = start .args .asked .now
+
+  abbrev variables : ℕ
+  variables = start .args .variables
+
+  abbrev here : List ℕ
+  here = factBytesOf x (factSet A bound asked x)
+
+  here-left : Left (c .before .loop .output) (c .before .loop .end) (here ++ factBytes (factsOnward A bound asked variables (x + 1)))
+      (start .args .output .now) (start .args .at) (factBytes (factsIn A variables bound asked))
+  here-left = left-same (bytes-here A bound asked variables x (omega arith)) (c .before .loop .inv .1)
+
+  has-room : c .before .loop .end + length here ≤ length (c .before .loop .output)
+  has-room = left-room here _ here-left (start .pre .3)
 
 loop-holds : tie.Need-loop-holds Inv-loop μ-loop
-loop-holds c = let a = c .before .before .args in (search needs, left-same (ap factBytes (sym (from-start (a .atoms) (a .bound .0) (a .asked .now) (a .variables)))) (left-all _ _ _))
+loop-holds c =
+    let a = c .before .before .args in
+    let all-left = ap factBytes (sym (onward-start (a .atoms) (a .bound .0) (a .asked .now) (a .variables))) in
+    (search needs, left-same all-left (left-all _ _ _))
 
 fact-set-requires : tie.Need-fact-set-requires Inv-loop μ-loop
 fact-set-requires c κs = search needs
@@ -30,8 +63,7 @@ cast-t13 : tie.Need-cast-t13 Inv-loop μ-loop
 cast-t13 c = search needs
 
 put-facts-of-requires : tie.Need-put-facts-of-requires Inv-loop μ-loop
-put-facts-of-requires c κs = let a = c .before .before .before .before .before .before .args in
-    rw (c .before .fact-set .ensures) (left-room (factsOf (c .before .before .before .loop .x) (factSet (a .atoms) (a .bound .0) (a .asked .now) (c .before .before .before .loop .x))) _ (here (c .before .before)) (c .before .before .before .before .before .before .pre .3))
+put-facts-of-requires c κs = rw (c .before .fact-set .ensures) (has-room (c .before .before))
 
 add-x : tie.Need-add-x Inv-loop μ-loop
 add-x c = search needs
@@ -40,13 +72,20 @@ loop-less : tie.Need-loop-less Inv-loop μ-loop
 loop-less c = search needs
 
 loop-again : tie.Need-loop-again Inv-loop μ-loop
-loop-again c = (search needs, left-more (here (c .before .before .before .before .before)) (wrote-same (ap (factsOf (c .before .before .before .before .before .before .loop .x)) (c .before .before .before .before .fact-set .ensures)) (c .before .before .put-facts-of .ensures)))
+loop-again c =
+    let at-facts = c .before .before in
+    let at-set = at-facts .before .before in
+    let turn = at-set .before in
+    (search needs, left-more (here-left turn) (wrote-same (ap (factBytesOf (x turn)) (at-set .fact-set .ensures)) (at-facts .put-facts-of .ensures)))
 
 same-length : tie.Need-same-length Inv-loop μ-loop
 same-length c = c .before .loop .inv .1 .long
 
 returns : tie.Need-returns Inv-loop μ-loop
-returns c = let a = c .before .before .before .before .args in left-done (c .before .loop .inv .1) (bytes-end (a .atoms) (a .bound .0) (a .asked .now) (a .variables) (c .before .loop .x) (omega arith))
+returns c =
+    let in-loop = c .before in
+    let a = in-loop .before .before .before .args in
+    left-done (in-loop .loop .inv .1) (bytes-end (a .atoms) (a .bound .0) (a .asked .now) (a .variables) (in-loop .loop .x) (omega arith))
 
 pub put-facts-spec : {M : Type 1} → statement M
 put-facts-spec =

@@ -14,7 +14,10 @@ same-length : tie.Need-same-length
 same-length c = search needs
 
 returns : tie.Need-returns
-returns c = c .before .before .before .before .before .before .put .ensures then c .before .before .put-two .ensures
+returns c =
+    let at-length = c .before .before in
+    let at-tag = at-length .before .before .before .before in
+    at-tag .put .ensures then at-length .put-two .ensures
 
 pub put-front-spec : {M : Type 1} → statement M
 put-front-spec = tie.close (tie.spec put-requires put-two-requires same-length returns)

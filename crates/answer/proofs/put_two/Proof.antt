@@ -2,7 +2,7 @@
 use Prim.Native.Nat.{_<_}
 use native.Mathlib.Omega.{arith}
 use Rattle.answer.proofs.Writing.{wrote-same, _then_}
-use Rattle.answer.proofs.Answer.{two-bytes}
+use Rattle.answer.proofs.Fields.{two-parts}
 use borrow.Author.Needs.{needs}
 use Rattle.answer.proofs.put_two.Statement.{statement}
 use Rattle.answer.proofs.put_two.Tie as tie
@@ -23,7 +23,12 @@ same-length : tie.Need-same-length
 same-length c = search needs
 
 returns : tie.Need-returns
-returns c = let h : c .before .before .before .before .before .before .before .before .before .args .n < 65536 = omega arith in wrote-same (two-bytes (c .before .before .before .before .before .before .before .before .before .args .n) h) (c .before .before .before .before .before .before .put .ensures then c .before .before .put2 .ensures)
+returns c =
+    let at-low = c .before .before in
+    let at-high = at-low .before .before .before .before in
+    let n = at-high .before .before .before .args .n in
+    let few : n < 65536 = omega arith in
+    wrote-same (two-parts n few) (at-high .put .ensures then at-low .put2 .ensures)
 
 pub put-two-spec : {M : Type 1} → statement M
 put-two-spec =

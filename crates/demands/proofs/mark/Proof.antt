@@ -1,35 +1,36 @@
 -- `mark` meets its contract: an atom that is in the set already changes nothing, another one comes into the set with its equation.
 use mathlib.Core.Path.{sym, _∙_}
-use Rattle.demands.specs.Demands.{sheet}
-use Rattle.demands.proofs.Demands.{marked-again, marked-new}
+use Rattle.demands.specs.Demands.{Line, line}
+use Rattle.demands.proofs.Demands.{line-marked-again, line-marked-new}
 use borrow.Author.Needs.{needs}
 use Rattle.demands.proofs.mark.Statement.{statement}
 use Rattle.demands.proofs.mark.Tie as tie
 
-mul-t9 : tie.Need-mul-t9
-mul-t9 c = search needs
+-- Where it is known whether the set has the atom: the function's start, and the row as it came.
+module _ (c : tie.After-has) where
+  abbrev start : tie.Start
+  start = c .before .before .before .before
 
-slice-read-t11 : tie.Need-slice-read-t11
-slice-read-t11 c = search needs
+  abbrev row : Line
+  row = line (start .args .sets .now) (start .args .numbers .now)
+
+mul-t8 : tie.Need-mul-t8
+mul-t8 c = search needs
+
+slice-read-t10 : tie.Need-slice-read-t10
+slice-read-t10 c = search needs
 
 has-requires : tie.Need-has-requires
 has-requires c κs = search needs
 
 returns : tie.Need-returns
-returns c = let a = c .before .before .before .before .before .args in
-    sym (marked-again (a .row) (a .number) (a .a .0) (sheet (a .sets .now) (a .firsts .now)) (sym (c .before .has .ensures) ∙ c .if1 .taken))
+returns c =
+    let asked = c .before in
+    let a = start asked .args in
+    sym (line-marked-again (a .i) (a .number) (a .a .0) (row asked) (sym (asked .has .ensures) ∙ c .if1 .taken))
 
 with-requires : tie.Need-with-requires
 with-requires c κs = search needs
-
-mul-place : tie.Need-mul-place
-mul-place c = search needs
-
-cast-place : tie.Need-cast-place
-cast-place c = search needs
-
-add-place : tie.Need-add-place
-add-place c = search needs
 
 mul-sets : tie.Need-mul-sets
 mul-sets c = search needs
@@ -37,8 +38,11 @@ mul-sets c = search needs
 slice-write-sets : tie.Need-slice-write-sets
 slice-write-sets c = search needs
 
-slice-write-firsts : tie.Need-slice-write-firsts
-slice-write-firsts c = search needs
+cast-numbers : tie.Need-cast-numbers
+cast-numbers c = search needs
+
+slice-write-numbers : tie.Need-slice-write-numbers
+slice-write-numbers c = search needs
 
 same-length : tie.Need-same-length
 same-length c = search needs
@@ -47,25 +51,27 @@ same-length-2 : tie.Need-same-length-2
 same-length-2 c = search needs
 
 returns-2 : tie.Need-returns-2
-returns-2 c = let a = c .before .before .before .before .before .before .before .args in
-    rw (c .before .with .ensures)
-    (sym (marked-new (a .row) (a .number) (a .a .0) (sheet (a .sets .now) (a .firsts .now)) (sym (c .before .before .before .has .ensures) ∙ c .before .before .if1 .left)))
+returns-2 c =
+    let inserting = c .before in
+    let absent = inserting .before in
+    let asked = absent .before in
+    let a = start asked .args in
+    rw (inserting .with .ensures)
+    (sym (line-marked-new (a .i) (a .number) (a .a .0) (row asked) (sym (asked .has .ensures) ∙ absent .if1 .left)))
 
 pub mark-spec : {M : Type 1} → statement M
 mark-spec =
     tie.close
     (tie.spec
-    mul-t9
-    slice-read-t11
+    mul-t8
+    slice-read-t10
     has-requires
     returns
     with-requires
-    mul-place
-    cast-place
-    add-place
     mul-sets
     slice-write-sets
-    slice-write-firsts
+    cast-numbers
+    slice-write-numbers
     same-length
     same-length-2
     returns-2)

@@ -2,30 +2,76 @@
 use Prim.Native.Nat.{ℕ, _^_, _<_}
 use native.Mathlib.Omega.{arith}
 use mathlib.Core.Path.{sym, ap, _∙_, _≡_}
+use lib.ListN.{length}
 use borrow.Author.Tests.{not-true, not-false, eqb-true}
 use Rattle.sets.specs.Bits.{removed, lowest, members, count}
 use Rattle.sets.proofs.Bits.{not-empty, lowest-lt, lowest-member, count-removed-lt}
-use Rattle.demands.specs.Demands.{marked, sheet, markedAll}
-use Rattle.demands.proofs.Demands.{markedAll-none, markedAll-lowest}
-use lib.ListN.{length}
+use Rattle.demands.specs.Demands.{Line, line, lineMarked, lineMarkedAll}
+use Rattle.demands.proofs.Demands.{line-marked-none, line-marked-lowest}
 use borrow.Author.Needs.{needs}
 use Rattle.demands.proofs.mark_all.Statement.{statement}
 use Rattle.demands.proofs.mark_all.Tie as tie
 
 abbrev Inv-loop : tie.InvT-loop
-Inv-loop sets₀ firsts₀ row number rest₀ sets firsts rest = (length sets ≡ length sets₀) × (length firsts ≡ length firsts₀) × (rest .0 < 2 ^ 32) × (markedAll row number (members 32 (rest .0)) (sheet sets firsts) ≡ markedAll row number (members 32 (rest₀ .0)) (sheet sets₀ firsts₀))
+Inv-loop sets₀ numbers₀ i number rest₀ sets numbers rest =
+    (length sets ≡ length sets₀)
+    × (length numbers ≡ length numbers₀)
+    × (rest .0 < 2 ^ 32)
+    × (lineMarkedAll i number (members 32 (rest .0)) (line sets numbers) ≡ lineMarkedAll i number (members 32 (rest₀ .0)) (line sets₀ numbers₀))
 
 abbrev μ-loop : tie.MeasureT-loop
-μ-loop sets₀ firsts₀ row number rest₀ sets firsts rest = count (rest .0)
+μ-loop sets₀ numbers₀ i number rest₀ sets numbers rest = count (rest .0)
 
-positive : (c : tie.Then1 Inv-loop μ-loop) → 0 < c .before .before .loop .rest .0
-positive c = not-empty _ (sym (c .before .is-empty .ensures) ∙ not-true _ (c .if1 .taken))
+-- ---- a turn: some atom is left
 
-within : (c : tie.Then1 Inv-loop μ-loop) → lowest 32 (c .before .before .loop .rest .0) < 32
-within c = lowest-lt 32 _ (positive c) (c .before .before .loop .inv .2)
+module _ (c : tie.Then1 Inv-loop μ-loop) where
+  abbrev start : tie.Start Inv-loop μ-loop
+  start = c .before .before .before .before .before
 
-falls : (c : tie.Then1 Inv-loop μ-loop) → count (removed (c .before .before .loop .rest .0) (lowest 32 (c .before .before .loop .rest .0))) < count (c .before .before .loop .rest .0)
-falls c = count-removed-lt _ _ (lowest-member 32 _ (positive c) (c .before .before .loop .inv .2))
+  abbrev row : Line
+  row = line (c .before .before .loop .sets) (c .before .before .loop .numbers)
+
+  abbrev left : ℕ
+  left = c .before .before .loop .rest .0
+
+  left-small : left < 2 ^ 32
+  left-small = c .before .before .loop .inv .2
+
+  some-left : 0 < left
+  some-left = not-empty _ (sym (c .before .is-empty .ensures) ∙ not-true _ (c .if1 .taken))
+
+  lowest-small : lowest 32 left < 32
+  lowest-small = lowest-lt 32 _ some-left left-small
+
+  fewer-left : count (removed left (lowest 32 left)) < count left
+  fewer-left = count-removed-lt _ _ (lowest-member 32 _ some-left left-small)
+
+-- ---- its end: the lowest atom is marked and gone
+
+module _ (c : tie.After-without-lowest Inv-loop μ-loop) where
+  abbrev marking : tie.After-mark Inv-loop μ-loop
+  marking = c .before .before .before .before .before
+
+  abbrev turn : tie.Then1 Inv-loop μ-loop
+  turn = marking .before .before .before .before
+
+  abbrev row-after : Line
+  row-after = line (marking .mark .last .0) (marking .mark .last .1 .0)
+
+  row-marked : row-after ≡ lineMarked (start turn .args .i) (start turn .args .number) (lowest 32 (left turn)) (row turn)
+  row-marked =
+      marking .mark .ensures
+      ∙ ap (λ (b : ℕ). lineMarked (start turn .args .i) (start turn .args .number) b (row turn)) (marking .before .lowest .ensures)
+
+  -- Marking what is left now is marking what was left before the turn.
+  same-all : lineMarkedAll (start turn .args .i) (start turn .args .number) (members 32 (c .without-lowest .result .0)) row-after
+      ≡ lineMarkedAll (start turn .args .i) (start turn .args .number) (members 32 (left turn)) (row turn)
+  same-all =
+      let i = start turn .args .i in
+      let k = start turn .args .number in
+      ap (λ (w : ℕ). lineMarkedAll i k (members 32 w) row-after) (c .without-lowest .ensures)
+      ∙ ap (lineMarkedAll i k (members 32 (removed (left turn) (lowest 32 (left turn))))) row-marked
+      ∙ sym (line-marked-lowest i k (left turn) (row turn) (some-left turn) (left-small turn))
 
 loop-holds : tie.Need-loop-holds Inv-loop μ-loop
 loop-holds c = search needs
@@ -37,27 +83,18 @@ lowest-requires : tie.Need-lowest-requires Inv-loop μ-loop
 lowest-requires c κs = search needs
 
 mark-requires : tie.Need-mark-requires Inv-loop μ-loop
-mark-requires c κs = (search needs, search needs, omega (arith, within (c .before .before .before), c .lowest .ensures))
+mark-requires c κs =
+    let turn = c .before .before .before in
+    (search needs, omega (arith, lowest-small turn, c .lowest .ensures), search needs)
 
 without-lowest-requires : tie.Need-without-lowest-requires Inv-loop μ-loop
 without-lowest-requires c κs = search needs
 
 loop-less : tie.Need-loop-less Inv-loop μ-loop
-loop-less c = omega (arith, falls (c .before .before .before .before .before .before .before .before .before), ap count (c .without-lowest .ensures))
+loop-less c = omega (arith, fewer-left (turn c), ap count (c .without-lowest .ensures))
 
 loop-again : tie.Need-loop-again Inv-loop μ-loop
-loop-again c = let a = c .before .before .before .before .before .before .before .before .before .before .before .before .before .before .args in
-    let l = c .before .before .before .before .before .before .before .before .before .before .before .loop in
-    let w : ℕ = l .rest .0 in
-    let s = sheet (l .sets) (l .firsts) in (
-      search needs,
-      search needs,
-      search needs,
-      ap (λ (v : ℕ). markedAll (a .row) (a .number) (members 32 v) (sheet (c .before .before .before .before .before .mark .last .0) (c .before .before .before .before .before .mark .last .1 .0))) (c .without-lowest .ensures)
-          ∙ ap (markedAll (a .row) (a .number) (members 32 (removed w (lowest 32 w)))) (c .before .before .before .before .before .mark .ensures ∙ ap (λ (b : ℕ). marked (a .row) (a .number) b s) (c .before .before .before .before .before .before .lowest .ensures))
-          ∙ sym (markedAll-lowest (a .row) (a .number) w s (positive (c .before .before .before .before .before .before .before .before .before)) (l .inv .2))
-          ∙ l .inv .3,
-    )
+loop-again c = (search needs, search needs, search needs, same-all c ∙ turn c .before .before .loop .inv .3)
 
 same-length : tie.Need-same-length Inv-loop μ-loop
 same-length c = search needs
@@ -66,11 +103,14 @@ same-length-2 : tie.Need-same-length-2 Inv-loop μ-loop
 same-length-2 c = search needs
 
 returns : tie.Need-returns Inv-loop μ-loop
-returns c = let a = c .before .before .before .before .before .args in
-    let l = c .before .before .loop in
-    let s = sheet (l .sets) (l .firsts) in
-    let z : l .rest .0 ≡ 0 = eqb-true _ _ (sym (c .before .is-empty .ensures) ∙ not-false _ (c .if1 .left)) in
-    sym (ap (λ (v : ℕ). markedAll (a .row) (a .number) (members 32 v) s) z ∙ markedAll-none (a .row) (a .number) s) ∙ l .inv .3
+returns c =
+    let state = c .before .before .loop in
+    let a = c .before .before .before .before .before .args in
+    let row = line (state .sets) (state .numbers) in
+    let none-left : state .rest .0 ≡ 0 = eqb-true _ _ (sym (c .before .is-empty .ensures) ∙ not-false _ (c .if1 .left)) in
+    sym (line-marked-none (a .i) (a .number) row)
+    ∙ ap (λ (w : ℕ). lineMarkedAll (a .i) (a .number) (members 32 w) row) (sym none-left)
+    ∙ state .inv .3
 
 pub mark-all-spec : {M : Type 1} → statement M
 mark-all-spec =

@@ -3,6 +3,7 @@ use Prim.Native.Nat.{ℕ, _≤_, _<_}
 use native.Mathlib.Omega.{arith}
 use mathlib.Core.Path.{_≡_, ap, _∙_}
 use lib.ListN.{length}
+use Rattle.permutation.specs.Table.{Table}
 use Rattle.permutation.specs.Store.{table}
 use Rattle.permutation.proofs.Store.{length-table}
 use Rattle.demands.specs.Demands.{sheet, marked}
@@ -11,36 +12,47 @@ use borrow.Author.Needs.{needs}
 use Rattle.demands.proofs.raise_side.Statement.{statement}
 use Rattle.demands.proofs.raise_side.Tie as tie
 
-has-atoms : (c : tie.Start) → length (table (c .args .atoms) (c .args .p)) ≡ c .args .atoms
-has-atoms c =
-    let l : length (c .args .p .images) ≡ 32 = search needs in
-    length-table (c .args .atoms) (c .args .p) (omega arith)
+-- ---- the side's images, at the start
 
-sent-lt : (c : tie.After-preimage) → c .preimage .result .0 < 32
-sent-lt c =
-    let a = c .before .args in
-    let k : a .atoms ≤ 32 = c .before .pre .0 in
-    let h : a .a .0 < a .atoms = c .before .pre .1 in
-    omega (arith, c .preimage .ensures, has-atoms (c .before), inverted-lt (table (a .atoms) (a .p)) (a .a .0) (rw (has-atoms (c .before)) h))
+module _ (c : tie.Start) where
+  abbrev images : Table
+  images = table (c .args .atoms) (c .args .p)
+
+  long : length images ≡ c .args .atoms
+  long =
+      let l : length (c .args .p .images) ≡ 32 = search needs in
+      length-table (c .args .atoms) (c .args .p) (omega (arith, c .pre .0))
+
+  few : length images ≤ 32
+  few = rw long (c .pre .0)
+
+  within : c .args .a .0 < length images
+  within = rw long (c .pre .1)
+
+sent-small : (c : tie.After-preimage) → c .preimage .result .0 < 32
+sent-small c =
+    let start = c .before in
+    omega (arith, c .preimage .ensures, few start, inverted-lt (images start) (start .args .a .0) (within start))
 
 preimage-requires : tie.Need-preimage-requires
 preimage-requires c κs = search needs
 
-cast-mark : tie.Need-cast-mark
-cast-mark c = search needs
+cast-raise : tie.Need-cast-raise
+cast-raise c = search needs
 
-mark-requires : tie.Need-mark-requires
-mark-requires c κs = (search needs, search needs, sent-lt (c .before .before .before))
+raise-requires : tie.Need-raise-requires
+raise-requires c κs = (search needs, search needs, search needs, sent-small (c .before .before .before))
 
 returns : tie.Need-returns
-returns c = let a = c .before .before .before .before .before .args in
-    let s = sheet (a .asked-nodes .now) (a .first-nodes .now) in
-    let k : a .atoms ≤ 32 = c .before .before .before .before .before .pre .0 in
-    let h : a .a .0 < a .atoms = c .before .before .before .before .before .pre .1 in
-    let l : length (table (a .atoms) (a .p)) ≡ a .atoms = has-atoms (c .before .before .before .before .before) in
-    side-raised (a .a .0) (table (a .atoms) (a .p)) (a .node .0) (a .number) s _ (rw l h) (rw l k) (c .before .before .before .mark-arg .given .0 .1) (c .before .before .mark-arg2 .given .0 .1)
-    (c .mark .ensures ∙ ap (λ (b : ℕ). marked (a .node .0) (a .number) b s) (c .before .before .before .before .preimage .ensures))
+returns c =
+    let sent = c .before .before .before .before in
+    let start = sent .before in
+    let a = start .args in
+    let before = sheet (a .asked .now) (a .firsts .now) in
+    let there = c .raise .ensures .0 in
+    let content = c .raise .ensures .1 ∙ ap (λ (b : ℕ). marked 0 (a .node .0) (a .number) b before) (sent .preimage .ensures) in
+    side-raised (a .a .0) (images start) (a .node .0) (a .number) before _ (within start) (few start) (start .pre .2) there content
 
 pub raise-side-spec : {M : Type 1} → statement M
 raise-side-spec =
-    tie.close (tie.spec preimage-requires cast-mark mark-requires returns)
+    tie.close (tie.spec preimage-requires cast-raise raise-requires returns)

@@ -9,16 +9,18 @@ use Rattle.demands.proofs.raise_variable.Tie as tie
 fits : (c : tie.Start) → c .args .atoms .0 < 2 ^ 32
 fits c = search needs
 
-cast-mark-all : tie.Need-cast-mark-all
-cast-mark-all c = search needs
+cast-raise-all : tie.Need-cast-raise-all
+cast-raise-all c = search needs
 
-mark-all-requires : tie.Need-mark-all-requires
-mark-all-requires c κs = search needs
+raise-all-requires : tie.Need-raise-all-requires
+raise-all-requires c κs = search needs
 
 returns : tie.Need-returns
-returns c = let a = c .before .before .before .before .args in
-    variable-raised (a .atoms .0) (a .x .0) (a .number) (sheet (a .asked-variables .now) (a .first-variables .now)) _ (fits (c .before .before .before .before)) (c .before .before .before .mark-all-arg .given .0 .1)
-    (c .before .before .mark-all-arg2 .given .0 .1) (c .mark-all .ensures)
+returns c =
+    let start = c .before .before .before .before in
+    let a = start .args in
+    let before = sheet (a .asked .now) (a .firsts .now) in
+    variable-raised (a .atoms .0) (a .x .0) (a .number) before _ (fits start) (c .raise-all .ensures .0) (c .raise-all .ensures .1)
 
 pub raise-variable-spec : {M : Type 1} → statement M
-raise-variable-spec = tie.close (tie.spec cast-mark-all mark-all-requires returns)
+raise-variable-spec = tie.close (tie.spec cast-raise-all raise-all-requires returns)

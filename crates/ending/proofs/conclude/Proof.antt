@@ -1,52 +1,84 @@
 -- `conclude` meets its contract: the demands that were resolved decide, and then whether the answer fits.
-use native.Mathlib.Omega.{arith}
 use borrow.Author.Needs.{needs}
-use Rattle.problem.specs.Held.{problemOf}
-use Rattle.ending.proofs.Resolving.{all-atoms, all-variables}
+use Rattle.problem.proofs.Counted.{all-atoms, all-variables}
+use Rattle.ending.proofs.Resolving.{bound-in, solver-small, solver-outcome, few-atoms, few-variables}
 use Rattle.ending.proofs.Deciding.{conclude-not-fresh, conclude-accepted, conclude-short}
 use Rattle.ending.proofs.conclude.Statement.{statement}
 use Rattle.ending.proofs.conclude.Tie as tie
 
-resolve-solved-requires : tie.Need-resolve-solved-requires
-resolve-solved-requires c κs = (c .before .before .before .before .before .before .pre .0, (c .before .before .before .before .before .before .args .order .now, c .before .before .before .before .before .before .args .count, c .before .before .before .before .before .before .args .steps, c .before .before .before .before .before .before .pre .1))
+cast-variables : tie.Need-cast-variables
+cast-variables c = search needs
+
+add-assumptions-requires : tie.Need-add-assumptions-requires
+add-assumptions-requires c κs = let at-start = c .before .before .before .before in few-variables (at-start .pre .0)
+
+resolve-requires : tie.Need-resolve-requires
+resolve-requires c κs =
+    let at-added = c .before .before in
+    let (read, ended) = at-added .before .before .before .before .before .pre in
+    ((read .standing, read .counts), (bound-in (ended .meant), solver-small read ended (at-added .add-assumptions .ensures)))
 
 returns : tie.Need-returns
 returns c =
-    λ e.
-    conclude-not-fresh (problemOf (c .before .before .before .before .before .before .before .before .args .s .now)) (c .before .before .before .before .before .before .before .before .pre .0 .readable) e _ _ (c .before .resolve-solved .ensures (c .before .before .before .before .before .before .before .before .args .order .now) (c .before .before .before .before .before .before .before .before .args .count) (c .before .before .before .before .before .before .before .before .args .steps) e) (c .before .before .before .before .before .before .before .before .args .output .now) (c .if1 .taken)
+    let at-resolved = c .before in
+    let at-added = at-resolved .before .before .before in
+    let (read, _) = at-added .before .before .before .before .before .pre in
+    λ ended.
+    let outcome = solver-outcome read ended (at-added .add-assumptions .ensures) (at-resolved .resolve .ensures) in
+    conclude-not-fresh (read .standing .readable) ended outcome (c .if1 .taken)
 
 cast-write : tie.Need-cast-write
 cast-write c = search needs
 
-cast-write-2 : tie.Need-cast-write-2
-cast-write-2 c = search needs
-
 write-requires : tie.Need-write-requires
-write-requires c κs = (
-  c .before .before .before .before .before .before .before .before .before .before .before .before .pre .1 .keeps,
-  omega (arith, all-atoms (c .before .before .before .before .before .before .before .before .before .before .before .before .args .c) (problemOf (c .before .before .before .before .before .before .before .before .before .before .before .before .args .s .now)) (c .before .before .before .before .before .before .before .before .before .before .before .before .pre .0 .counts), c .before .before .before .before .before .before .before .before .before .before .before .before .pre .0 .readable .few-atoms),
-  omega (arith, all-variables (c .before .before .before .before .before .before .before .before .before .before .before .before .args .c) (problemOf (c .before .before .before .before .before .before .before .before .before .before .before .before .args .s .now)) (c .before .before .before .before .before .before .before .before .before .before .before .before .pre .0 .counts), c .before .before .before .before .before .before .before .before .before .before .before .before .pre .0 .readable .few-variables),
-)
+write-requires c κs =
+    let at-start = c .before .before .before .before .before .before .before .before .before .before .before .before in
+    let (read, ended) = at-start .pre in
+    (ended .meant .keeps, few-atoms read, few-variables read)
 
 same-length : tie.Need-same-length
 same-length c = search needs
 
 returns-2 : tie.Need-returns-2
 returns-2 c =
-    λ e.
-    conclude-accepted (problemOf (c .before .before .before .before .before .before .before .before .before .before .before .before .before .before .before .before .before .args .s .now)) (c .before .before .before .before .before .before .before .before .before .before .before .before .before .before .before .before .before .pre .0 .readable) e _ _ (c .before .before .before .before .before .before .before .before .before .before .resolve-solved .ensures (c .before .before .before .before .before .before .before .before .before .before .before .before .before .before .before .before .before .args .order .now) (c .before .before .before .before .before .before .before .before .before .before .before .before .before .before .before .before .before .args .count) (c .before .before .before .before .before .before .before .before .before .before .before .before .before .before .before .before .before .args .steps) e) (c .before .before .before .before .before .before .before .before .before .if1 .left)
-    (c .before .before .before .before .before .before .before .before .before .before .before .before .before .before .before .before .before .args .c .atoms) (c .before .before .before .before .before .before .before .before .before .before .before .before .before .before .before .before .before .args .c .variables) (all-atoms (c .before .before .before .before .before .before .before .before .before .before .before .before .before .before .before .before .before .args .c) (problemOf (c .before .before .before .before .before .before .before .before .before .before .before .before .before .before .before .before .before .args .s .now)) (c .before .before .before .before .before .before .before .before .before .before .before .before .before .before .before .before .before .pre .0 .counts)) (all-variables (c .before .before .before .before .before .before .before .before .before .before .before .before .before .before .before .before .before .args .c) (problemOf (c .before .before .before .before .before .before .before .before .before .before .before .before .before .before .before .before .before .args .s .now)) (c .before .before .before .before .before .before .before .before .before .before .before .before .before .before .before .before .before .pre .0 .counts)) (c .before .before .before .before .write .result) (c .before .before .before .before .before .before .before .before .before .before .before .before .before .before .before .before .before .args .output .now) _ (c .before .before .before .before .write .ensures)
-    (c .if2 .taken)
+    let at-written = c .before .before .before .before in
+    let at-quiet = at-written .before .before .before .before in
+    let at-resolved = at-quiet .before in
+    let at-added = at-resolved .before .before .before in
+    let at-start = at-added .before .before .before .before .before in
+    let (read, _) = at-start .pre in
+    λ ended.
+    let outcome = solver-outcome read ended (at-added .add-assumptions .ensures) (at-resolved .resolve .ensures) in
+    conclude-accepted (read .standing .readable) ended outcome (at-quiet .if1 .left) (all-atoms _ (read .counts)) (all-variables _ (read .counts))
+    (at-written .write .result) (at-start .args .output .now) _ (at-written .write .ensures) (c .if2 .taken)
 
 same-length-2 : tie.Need-same-length-2
 same-length-2 c = search needs
 
 returns-3 : tie.Need-returns-3
 returns-3 c =
-    λ e.
-    conclude-short (problemOf (c .before .before .before .before .before .before .before .before .before .before .before .before .before .before .before .before .before .args .s .now)) (c .before .before .before .before .before .before .before .before .before .before .before .before .before .before .before .before .before .pre .0 .readable) e _ _ (c .before .before .before .before .before .before .before .before .before .before .resolve-solved .ensures (c .before .before .before .before .before .before .before .before .before .before .before .before .before .before .before .before .before .args .order .now) (c .before .before .before .before .before .before .before .before .before .before .before .before .before .before .before .before .before .args .count) (c .before .before .before .before .before .before .before .before .before .before .before .before .before .before .before .before .before .args .steps) e) (c .before .before .before .before .before .before .before .before .before .if1 .left)
-    (c .before .before .before .before .before .before .before .before .before .before .before .before .before .before .before .before .before .args .c .atoms) (c .before .before .before .before .before .before .before .before .before .before .before .before .before .before .before .before .before .args .c .variables) (all-atoms (c .before .before .before .before .before .before .before .before .before .before .before .before .before .before .before .before .before .args .c) (problemOf (c .before .before .before .before .before .before .before .before .before .before .before .before .before .before .before .before .before .args .s .now)) (c .before .before .before .before .before .before .before .before .before .before .before .before .before .before .before .before .before .pre .0 .counts)) (all-variables (c .before .before .before .before .before .before .before .before .before .before .before .before .before .before .before .before .before .args .c) (problemOf (c .before .before .before .before .before .before .before .before .before .before .before .before .before .before .before .before .before .args .s .now)) (c .before .before .before .before .before .before .before .before .before .before .before .before .before .before .before .before .before .pre .0 .counts)) (c .before .before .before .before .write .result) (c .before .before .before .before .before .before .before .before .before .before .before .before .before .before .before .before .before .args .output .now) _ (c .before .before .before .before .write .ensures)
-    (c .if2 .left)
+    let at-written = c .before .before .before .before in
+    let at-quiet = at-written .before .before .before .before in
+    let at-resolved = at-quiet .before in
+    let at-added = at-resolved .before .before .before in
+    let at-start = at-added .before .before .before .before .before in
+    let (read, _) = at-start .pre in
+    λ ended.
+    let outcome = solver-outcome read ended (at-added .add-assumptions .ensures) (at-resolved .resolve .ensures) in
+    conclude-short (read .standing .readable) ended outcome (at-quiet .if1 .left) (all-atoms _ (read .counts)) (all-variables _ (read .counts))
+    (at-written .write .result) (at-start .args .output .now) _ (at-written .write .ensures) (c .if2 .left)
 
 pub conclude-spec : {M : Type 1} → statement M
-conclude-spec = tie.close (tie.spec resolve-solved-requires returns cast-write cast-write-2 write-requires same-length returns-2 same-length-2 returns-3)
+conclude-spec =
+    tie.close
+    (tie.spec
+    cast-variables
+    add-assumptions-requires
+    resolve-requires
+    returns
+    cast-write
+    write-requires
+    same-length
+    returns-2
+    same-length-2
+    returns-3)

@@ -37,10 +37,24 @@ shared-slice-read-t14 : tie.Need-shared-slice-read-t14
 shared-slice-read-t14 c = search needs
 
 returns-3 : tie.Need-returns-3
-returns-3 c = sym (is-whole (c .before .before .before .before .before .before .before .before .args .s .now) (c .before .before .before .before .wide .result * 256 + c .before .before .wide2 .result) (cc) (c .before .before .before .before .before .before .if1 .left) (c .before .if3 .taken))
+returns-3 c =
+    let at-if3 = c .before in
+    let at-wide2 = at-if3 .before in
+    let at-wide = at-wide2 .before .before in
+    let at-if1 = at-wide .before .before in
+    let at-start = at-if1 .before .before in
+    sym (is-whole (at-start .args .s .now)
+    (at-wide .wide .result * 256 + at-wide2 .wide2 .result) (cc)
+    (at-if1 .if1 .left) (at-if3 .if3 .taken))
 
 returns-4 : tie.Need-returns-4
-returns-4 c = sym (is-cut (c .before .before .before .before .before .before .before .args .s .now) (c .before .before .before .wide .result * 256 + c .before .wide2 .result) (cc) (c .before .before .before .before .before .if1 .left) (c .if3 .left))
+returns-4 c =
+    let at-wide2 = c .before in
+    let at-wide = at-wide2 .before .before in
+    let at-if1 = at-wide .before .before in
+    let at-start = at-if1 .before .before in
+    sym (is-cut (at-start .args .s .now)
+    (at-wide .wide .result * 256 + at-wide2 .wide2 .result) (cc) (at-if1 .if1 .left) (c .if3 .left))
 
 pub front-spec : {M : Type 1} → statement M
 front-spec =

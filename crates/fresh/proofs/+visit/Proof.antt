@@ -3,19 +3,21 @@
 use borrow.Author.Tests.{eqb-true}
 use native.Mathlib.Omega.{arith}
 use borrow.Author.Needs.{needs}
-use mathlib.Core.Path.{_≡_, sym, _∙_, ap}
+use mathlib.Core.Path.{_≡_, sym, _∙_, ap, subst}
 use mathlib.Core.List.{List}
 use lib.ListN.{length, getD}
 use Rattle.sets.specs.Bits.{difference}
+use Rattle.permutation.specs.Swaps.{Within}
+use Rattle.permutation.proofs.Swaps.{within-more}
 use Rattle.problem.specs.Problem.{Node, pair-form, formAt, Problem}
 use Rattle.problem.specs.Readable.{Named}
 use Rattle.problem.specs.Held.{problemOf}
-use Rattle.problem.specs.Look.{swapsOf}
+use Rattle.problem.specs.Look.{Standing, Suspended, untold, ownSwaps}
 use Rattle.problem.specs.declared.Form.{Form}
-use Rattle.fresh.specs.Marks.{Standing, Marked, added, Visited}
-use Rattle.fresh.proofs.Growth.{Onward, visited-again, visited-unit, visited-atom, visited-abstraction, visited-application}
+use Rattle.problem.proofs.Looking.{told-back, named-told, own-within}
+use Rattle.fresh.specs.Marks.{Marked, Visited}
+use Rattle.fresh.proofs.Growth.{Onward, Noted, visited-again, visited-unit, visited-atom, visited-abstraction, visited-application}
 use Rattle.fresh.proofs.Growth.{visited-pair, visited-pair-right, visited-twins, visited-suspension}
-use Rattle.fresh.proofs.Growth.{untold, told-back, suspended-by, named-by, swaps-within}
 use Prim.Native.Nat.{ℕ, _≤_, _<_, _^_}
 use borrow.Fn.Kinds.{In}
 use borrow.Fn.PlainCycle.{Measures, is, falls, and}
@@ -36,12 +38,12 @@ abbrev μ-visit : Measures 4 visit-kinds.ps ℕ
 μ-visit κs a = a .1 .1 .1 .0 .0
 
 abbrev Inv : visit-lts.InvT-loop
-Inv s places seen₀ asked-variables₀ more₀ at₀ seen asked-variables more at =
+Inv s places seen₀ on-variables₀ more₀ at₀ seen on-variables more at =
     (at .0 ≤ at₀ .0)
-    × Onward (problemOf s) (more₀ .0) (at₀ .0) seen₀ asked-variables₀ (more .0) (at .0) seen asked-variables
+    × Onward (problemOf s) (more₀ .0) (at₀ .0) seen₀ on-variables₀ (more .0) (at .0) seen on-variables
 
 abbrev μ : visit-lts.MeasureT-loop
-μ s places seen₀ asked-variables₀ more₀ at₀ seen asked-variables more at = at .0
+μ s places seen₀ on-variables₀ more₀ at₀ seen on-variables more at = at .0
 
 lower : (a n b : ℕ) → a < n → n ≤ b → a < b
 lower a n b h k = omega arith
@@ -126,19 +128,19 @@ module _ (t : ℕ) where
         let k = lower _ _ _ h (state .inv .0) in
         (rw (start .pre .0) at k, (stands, omega (arith, k, start .pre .1 .1)))
 
-    -- What the loop keeps at a turn's end, with the atoms and the node that are left to visit and the tables so far.
+    -- What the loop keeps at a turn's end, with the atoms and the node that are left to visit and the columns so far.
     abbrev Goes-on : ℕ → ℕ → List ℕ → List ℕ → Type 0
-    Goes-on rest m seen asked =
+    Goes-on rest m seen variables =
         (m ≤ start .args .node .0)
         × Onward problem (start .args .atoms .0) (start .args .node .0) (start .args .seen .now)
-        (start .args .asked-variables .now) rest m seen asked
+        (start .args .on-variables .now) rest m seen variables
 
     -- The node that is left is below this turn's, and its visit completes this turn's: so it completes the whole visit.
-    goes-on : (rest m : ℕ) (seen asked : List ℕ) → m < state .at .0
-        → Onward problem (state .more .0) (state .at .0) (state .seen) (state .asked-variables) rest m seen asked
-        → Goes-on rest m seen asked
-    goes-on rest m seen asked h next =
-        (lower-part _ _ _ h (state .inv .0), λ seen₁ asked₁ v. state .inv .1 seen₁ asked₁ (next seen₁ asked₁ v))
+    goes-on : (rest m : ℕ) (seen variables : List ℕ) → m < state .at .0
+        → Onward problem (state .more .0) (state .at .0) (state .seen) (state .on-variables) rest m seen variables
+        → Goes-on rest m seen variables
+    goes-on rest m seen variables h next =
+        (lower-part _ _ _ h (state .inv .0), λ seen₁ variables₁ v. state .inv .1 seen₁ variables₁ (next seen₁ variables₁ v))
 
   -- ---- at the node's row
 
@@ -177,27 +179,28 @@ module _ (t : ℕ) where
     abbrev turn : Turn
     turn = found-turn found
 
-    -- The table with the new atoms.
+    -- The column with the new atoms.
     abbrev seen : List ℕ
     seen = c .before .add-atoms .last .0
+
+    noted : Noted (problem turn) (state turn .more .0) (state turn .at .0) (state turn .seen) (state turn .on-variables) (new found) seen
+    noted = record { few = few turn; in-seen = in-row (row found); is-new = is-new found; is-seen = c .before .add-atoms .ensures }
 
     abbrev form : Node
     form = formAt (problem turn .nodes) (state turn .at .0)
 
-    in-seen : state turn .at .0 < length (state turn .seen)
-    in-seen = in-row (row found)
-
-    is-seen : seen ≡ added (state turn .seen) (state turn .at .0) (new found)
-    is-seen = c .before .add-atoms .ensures
-
     -- The form, as the code was told it.
-    told : {r : Form} → c .form-of .result ≡ r → form ≡ untold (swapsOf form) r
+    told : {r : Form} → c .form-of .result ≡ r → form ≡ untold (ownSwaps form) r
     told q = told-back form (sym q ∙ c .form-of .ensures)
 
     -- The form's parts are below the node, and its variable is one of the problem's.
     named : {r : Form} → c .form-of .result ≡ r
-        → Named (problem turn .atoms) (problem turn .variables) (state turn .at .0) (untold (swapsOf form) r)
-    named q = named-by (stands turn) _ _ (told q)
+        → Named (problem turn .atoms) (problem turn .variables) (state turn .at .0) (untold (ownSwaps form) r)
+    named q = named-told (stands turn .readable) _ (sym q ∙ c .form-of .ensures)
+
+    -- Its swaps are of atoms that are there.
+    swaps-within : Within 32 (ownSwaps form)
+    swaps-within = within-more _ 32 (ownSwaps form) (stands turn .readable .few-atoms) (own-within (stands turn .readable) (state turn .at .0))
 
   -- ---- at a pair
 
@@ -217,34 +220,27 @@ module _ (t : ℕ) where
     parts-below : (left < state (turn pair-here) .at .0) × (right < state (turn pair-here) .at .0)
     parts-below = named pair-here (c .form3 .given .1)
 
-    -- The new atoms were visited at a part, up to the tables given.
+    -- The new atoms were visited at a part, up to the columns given.
     abbrev Part-visited : ℕ → List ℕ → List ℕ → Type 0
-    Part-visited m seen₁ asked₁ =
+    Part-visited m seen₁ variables₁ =
         Visited (problem (turn pair-here) .nodes) (new (found pair-here)) m
-        (Marked (problem (turn pair-here)) (seen pair-here) (state (turn pair-here) .asked-variables))
-        (Marked (problem (turn pair-here)) seen₁ asked₁)
+        (Marked (problem (turn pair-here)) (seen pair-here) (state (turn pair-here) .on-variables))
+        (Marked (problem (turn pair-here)) seen₁ variables₁)
 
     -- The two parts are one node.
-    twins : left ≡ right → Goes-on (turn pair-here) (new (found pair-here)) right (seen pair-here) (state (turn pair-here) .asked-variables)
-    twins q =
-        goes-on (turn pair-here) _ _ _ _ (parts-below .1) λ seen₂ asked₂ w.
-        visited-twins _ _ _ _ _ (few (turn pair-here)) _ (is-new (found pair-here)) (in-seen pair-here) _ (is-seen pair-here)
-        left right is-pair q w
+    twins : left ≡ right → Goes-on (turn pair-here) (new (found pair-here)) right (seen pair-here) (state (turn pair-here) .on-variables)
+    twins q = goes-on (turn pair-here) _ _ _ _ (parts-below .1) λ seen₂ variables₂ w. visited-twins (noted pair-here) is-pair q w
 
     -- One part is visited, and the other is left.
-    left-first : (seen₁ asked₁ : List ℕ) → Part-visited left seen₁ asked₁
-        → Goes-on (turn pair-here) (new (found pair-here)) right seen₁ asked₁
-    left-first seen₁ asked₁ v =
-        goes-on (turn pair-here) _ _ _ _ (parts-below .1) λ seen₂ asked₂ w.
-        visited-pair _ _ _ _ _ (few (turn pair-here)) _ (is-new (found pair-here)) (in-seen pair-here) _ (is-seen pair-here)
-        left right is-pair v w
+    left-first : (seen₁ variables₁ : List ℕ) → Part-visited left seen₁ variables₁
+        → Goes-on (turn pair-here) (new (found pair-here)) right seen₁ variables₁
+    left-first seen₁ variables₁ v =
+        goes-on (turn pair-here) _ _ _ _ (parts-below .1) λ seen₂ variables₂ w. visited-pair (noted pair-here) is-pair v w
 
-    right-first : (seen₁ asked₁ : List ℕ) → Part-visited right seen₁ asked₁
-        → Goes-on (turn pair-here) (new (found pair-here)) left seen₁ asked₁
-    right-first seen₁ asked₁ v =
-        goes-on (turn pair-here) _ _ _ _ (parts-below .0) λ seen₂ asked₂ w.
-        visited-pair-right _ _ _ _ _ (few (turn pair-here)) _ (is-new (found pair-here)) (in-seen pair-here) _ (is-seen pair-here)
-        left right is-pair v w
+    right-first : (seen₁ variables₁ : List ℕ) → Part-visited right seen₁ variables₁
+        → Goes-on (turn pair-here) (new (found pair-here)) left seen₁ variables₁
+    right-first seen₁ variables₁ v =
+        goes-on (turn pair-here) _ _ _ _ (parts-below .0) λ seen₂ variables₂ w. visited-pair-right (noted pair-here) is-pair v w
 
   abbrev paired : Apart → Paired
   paired c = c .before .before .before .before .before .before
@@ -252,7 +248,7 @@ module _ (t : ℕ) where
   -- ---- what is to be shown, in the code's order
 
   visit-loop-holds : visit-lts.Need-loop-holds claims visit-at visit.Post Inv μ
-  visit-loop-holds c = (omega arith, λ seen₁ asked₁ v. v)
+  visit-loop-holds c = (omega arith, λ seen₁ variables₁ v. v)
 
   visit-cast-n : visit-lts.Need-cast-n claims visit-at visit.Post Inv μ
   visit-cast-n c = search needs
@@ -286,9 +282,7 @@ module _ (t : ℕ) where
   visit-returns-2 : visit-lts.Need-returns-2 claims visit-at visit.Post Inv μ
   visit-returns-2 c =
       let here = c .before .before in
-      state (turn here) .inv .1 _ _
-      (visited-unit _ _ _ _ _ (few (turn here)) _ (is-new (found here)) (in-seen here) _ (is-seen here)
-      (told here (c .enum-told .given .1)))
+      state (turn here) .inv .1 _ _ (visited-unit (noted here) (told here (c .enum-told .given .1)))
 
   visit-enum-known-form : visit-lts.Need-enum-known-form claims visit-at visit.Post Inv μ
   visit-enum-known-form c = search needs
@@ -296,9 +290,7 @@ module _ (t : ℕ) where
   visit-returns-3 : visit-lts.Need-returns-3 claims visit-at visit.Post Inv μ
   visit-returns-3 c =
       let here = c .before .before .before in
-      state (turn here) .inv .1 _ _
-      (visited-atom _ _ _ _ _ (few (turn here)) _ (is-new (found here)) (in-seen here) _ (is-seen here)
-      _ (told here (c .before .form .given .1)))
+      state (turn here) .inv .1 _ _ (visited-atom (noted here) (told here (c .before .form .given .1)))
 
   visit-enum-known-form-2 : visit-lts.Need-enum-known-form-2 claims visit-at visit.Post Inv μ
   visit-enum-known-form-2 c = search needs
@@ -313,9 +305,8 @@ module _ (t : ℕ) where
   visit-loop-again c =
       let here = c .before .before .before .before in
       let known = c .before .before .form2 .given .1 in
-      goes-on (turn here) _ _ _ _ (named here known .1) λ seen₁ asked₁ v.
-      visited-abstraction _ _ _ _ _ (few (turn here)) _ (is-new (found here)) (in-seen here) _ (is-seen here)
-      _ _ _ (told here known) (c .without .ensures) v
+      goes-on (turn here) _ _ _ _ (named here known .1) λ seen₁ variables₁ v.
+      visited-abstraction (noted here) (told here known) (c .without .ensures) v
 
   visit-enum-known-form-3 : visit-lts.Need-enum-known-form-3 claims visit-at visit.Post Inv μ
   visit-enum-known-form-3 c = search needs
@@ -358,9 +349,7 @@ module _ (t : ℕ) where
   visit-loop-again-5 c =
       let here = c .before .before .before in
       let known = c .before .form4 .given .1 in
-      goes-on (turn here) _ _ _ _ (named here known) λ seen₁ asked₁ v.
-      visited-application _ _ _ _ _ (few (turn here)) _ (is-new (found here)) (in-seen here) _ (is-seen here)
-      _ _ (told here known) v
+      goes-on (turn here) _ _ _ _ (named here known) λ seen₁ variables₁ v. visited-application (noted here) (told here known) v
 
   visit-enum-known-form-5 : visit-lts.Need-enum-known-form-5 claims visit-at visit.Post Inv μ
   visit-enum-known-form-5 c = search needs
@@ -368,23 +357,20 @@ module _ (t : ℕ) where
   visit-ask-requires : visit-lts.Need-ask-requires claims visit-at visit.Post Inv μ
   visit-ask-requires c κs =
       let here = c .before .before .before .before in
-      let known = c .before .before .form5 .given .1 in
-      let z = stands (turn here) in (
-        z .nodes _ (few (turn here)),
-        suspended-by _ _ _ (told here known),
-        swaps-within z _,
-        omega (arith, named here known .0, z .readable .few-variables),
+      let known = c .before .before .form5 .given .1 in (
+        stands (turn here) .nodes _ (few (turn here)),
+        subst Suspended (sym (told here known)) tt,
+        swaps-within here,
+        omega (arith, named here known .0, stands (turn here) .readable .few-variables),
       )
 
   visit-returns-4 : visit-lts.Need-returns-4 claims visit-at visit.Post Inv μ
   visit-returns-4 c =
       let here = c .before .before .before .before .before in
       let known = c .before .before .before .form5 .given .1 in
-      let z = stands (turn here) in
       state (turn here) .inv .1 _ _
-      (visited-suspension _ _ _ _ _ (few (turn here)) _ (is-new (found here)) (in-seen here) _ (is-seen here)
-      _ _ _ (told here known) (c .ask .ensures) (swaps-within z _) (named here known .0)
-      (omega (arith, named here known .0, z .readable .few-variables, c .before .ask-arg .given)) (small (found here)))
+      (visited-suspension (noted here) (told here known) (c .ask .ensures) (swaps-within here) (named here known .0)
+      (omega (arith, named here known .0, stands (turn here) .readable .few-variables, c .before .ask-arg .given)) (small (found here)))
 
 pub +visit-spec : {M : Type 1} → statement M
 +visit-spec = close μ-visit λ t. visit-lts.spec (claims t)

@@ -1,5 +1,4 @@
 -- `add_atoms` meets its contract.
-use Prim.Native.Nat.{_-_}
 use borrow.Author.Needs.{needs}
 use mathlib.Core.Path.{ap}
 use lib.ListN.{set}
@@ -27,7 +26,7 @@ same-length c = search needs
 
 returns : tie.Need-returns
 unfolding added
-returns c = ap (set (c .before .before .before .args .rows .now) (c .before .before .before .args .i)) (c .union .ensures)
+returns c = let args = c .before .before .before .args in ap (set (args .rows .now) (args .i)) (c .union .ensures)
 
 pub add-atoms-spec : {M : Type 1} → statement M
 add-atoms-spec =

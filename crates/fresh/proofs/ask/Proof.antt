@@ -1,8 +1,8 @@
 -- `ask` meets its contract: the suspension's own swaps, as the bytes have them.
 use mathlib.Core.Path.{_∙_, ap}
+use borrow.Author.Needs.{needs}
 use Rattle.permutation.specs.Swaps.{Swaps, act}
 use Rattle.fresh.specs.Marks.{added, sentInto}
-use borrow.Author.Needs.{needs}
 use Rattle.fresh.proofs.ask.Statement.{statement}
 use Rattle.fresh.proofs.ask.Tie as tie
 
@@ -10,7 +10,7 @@ swaps-of-requires : tie.Need-swaps-of-requires
 swaps-of-requires c κs = search needs
 
 through-swaps-requires : tie.Need-through-swaps-requires
-through-swaps-requires c κs = rw (c .swaps-of .ensures) (c .before .before .before .pre .2)
+through-swaps-requires c κs = let start = c .before .before .before in rw (c .swaps-of .ensures) (start .pre .2)
 
 cast-add-atoms : tie.Need-cast-add-atoms
 cast-add-atoms c = search needs
@@ -22,7 +22,13 @@ same-length : tie.Need-same-length
 same-length c = search needs
 
 returns : tie.Need-returns
-returns c = c .before .before .add-atoms .ensures ∙ ap (added (c .before .before .before .before .before .before .before .before .before .args .asked-variables .now) (c .before .before .before .before .before .before .before .before .before .args .x .0)) (c .before .before .before .before .before .through-swaps .ensures ∙ ap (λ (π : Swaps). sentInto 32 (act π) (c .before .before .before .before .before .before .before .before .before .args .atoms .0)) (c .before .before .before .before .before .before .swaps-of .ensures))
+returns c =
+    let sent = c .before .before .before .before .before in
+    let swaps = sent .before in
+    let args = swaps .before .before .before .args in
+    c .before .before .add-atoms .ensures
+    ∙ ap (added (args .on-variables .now) (args .x .0))
+    (sent .through-swaps .ensures ∙ ap (λ (π : Swaps). sentInto 32 (act π) (args .atoms .0)) (swaps .swaps-of .ensures))
 
 pub ask-spec : {M : Type 1} → statement M
 ask-spec =

@@ -2,19 +2,23 @@
 use native.Mathlib.Omega.{arith}
 use borrow.Author.Needs.{needs}
 use borrow.Author.Tests.{not-true}
-use mathlib.Core.Path.{_≡_, sym, _∙_, ap}
-use Rattle.problem.specs.Held.{problemOf}
-use Rattle.fresh.proofs.Closing.{begun-none}
+use mathlib.Core.Path.{refl}
+use Rattle.fresh.proofs.Beginning.{begun-none}
 use Rattle.fresh.proofs.begin.Statement.{statement}
 use Rattle.fresh.proofs.begin.Tie as tie
 
+index-1-any : tie.Need-index-1-any
+index-1-any c = search needs
+
 any-requires : tie.Need-any-requires
-any-requires c κs = omega (arith, c .before .before .pre .0 .0 .readable .few-nodes, c .before .before .pre .0 .1, c .any-arg .given)
+any-requires c κs = search needs
 
 returns : tie.Need-returns
 returns c =
-    begun-none (problemOf (c .before .before .before .before .args .s .now)) (c .before .before .before .before .args .asked-nodes .now) (c .before .before .before .before .args .asked-variables .now)
-    (λ i l. c .before .any .ensures (not-true _ (c .if1 .taken)) i (omega (arith, c .before .before .before .before .pre .0 .1))) (c .before .before .before .before .args .seen .now) (λ i l. c .before .before .before .before .pre .1 i (omega (arith, c .before .before .before .before .pre .0 .1)))
+    let start = c .before .before .before .before .before in
+    let all-nodes = start .pre .0 .1 in
+    let bare = c .before .any .ensures (not-true _ (c .if1 .taken)) in
+    (begun-none _ _ _ (λ i l. bare i (omega (arith, all-nodes))) (start .args .seen .now) (λ i l. start .pre .1 i (omega (arith, all-nodes))), refl)
 
 visit-demanded-requires : tie.Need-visit-demanded-requires
 visit-demanded-requires c κs = search needs
@@ -23,4 +27,5 @@ returns-2 : tie.Need-returns-2
 returns-2 c = search needs
 
 pub begin-spec : {M : Type 1} → statement M
-begin-spec = tie.close (tie.spec any-requires returns visit-demanded-requires returns-2)
+begin-spec =
+    tie.close (tie.spec index-1-any any-requires returns visit-demanded-requires returns-2)

@@ -2,23 +2,27 @@
 use native.Mathlib.Omega.{arith}
 use borrow.Author.Needs.{needs}
 use borrow.Author.Tests.{not-true}
-use mathlib.Core.Path.{_≡_, sym, _∙_, ap}
+use mathlib.Core.Path.{sym}
 use mathlib.Core.Bool.{true≢false}
 use lib.ListN.{getD}
 use Rattle.problem.specs.Problem.{formAt}
 use Rattle.problem.specs.Held.{problemOf}
-use Rattle.fresh.proofs.Closing.{clash-unmarked}
+use Rattle.fresh.proofs.Clashes.{clash-unmarked}
 use Rattle.fresh.proofs.clashing.Statement.{statement}
 use Rattle.fresh.proofs.clashing.Tie as tie
 
 any-requires : tie.Need-any-requires
-any-requires c κs = omega (arith, c .before .before .pre .0 .readable .few-nodes, c .before .before .pre .1, c .any-arg .given)
+any-requires c κs = let start = c .before .before in omega (arith, start .pre .0 .readable .few-nodes, start .pre .1, c .any-arg .given)
 
 returns : tie.Need-returns
-returns c = record {
-  found = λ e. absurd (true≢false (sym e));
-  none = λ e k l. clash-unmarked (formAt (problemOf (c .before .before .before .before .args .s .now) .nodes) k) (getD (c .before .before .before .before .args .seen .now) k 0) (c .before .any .ensures (not-true _ (c .if1 .taken)) k (omega (arith, c .before .before .before .before .pre .1)));
-}
+returns c =
+    let start = c .before .before .before .before in
+    record {
+      found = λ e. absurd (true≢false (sym e));
+      none = λ e k l.
+          clash-unmarked (formAt (problemOf (start .args .s .now) .nodes) k) (getD (start .args .seen .now) k 0)
+          (c .before .any .ensures (not-true _ (c .if1 .taken)) k (omega (arith, start .pre .1)));
+    }
 
 clashing-marked-requires : tie.Need-clashing-marked-requires
 clashing-marked-requires c κs = search needs

@@ -4,7 +4,7 @@ use native.Mathlib.Omega.{arith}
 use borrow.Author.Needs.{needs}
 use mathlib.Core.Path.{_≡_, refl, _∙_}
 use lib.ListN.{length, getD, length-set}
-use Rattle.fresh.proofs.Sent.{cleared-more}
+use Rattle.fresh.proofs.Rows.{cleared-more}
 use Rattle.fresh.proofs.clear.Statement.{statement}
 use Rattle.fresh.proofs.clear.Tie as tie
 
@@ -14,6 +14,10 @@ Inv-loop rows₀ n i₀ rows i = (i ≤ n) × (length rows ≡ length rows₀) �
 abbrev μ-loop : tie.MeasureT-loop
 μ-loop rows₀ n i₀ rows i = n - i
 
+-- The row of a turn is one of the table's.
+in-rows : (c : tie.In-loop Inv-loop μ-loop) → c .before .loop .i < length (c .before .loop .rows)
+in-rows c = omega (arith, c .before .before .pre)
+
 loop-holds : tie.Need-loop-holds Inv-loop μ-loop
 loop-holds c = (omega arith, refl, λ k l. absurd (omega arith))
 
@@ -21,7 +25,7 @@ mul-rows : tie.Need-mul-rows Inv-loop μ-loop
 mul-rows c = search needs
 
 slice-write-rows : tie.Need-slice-write-rows Inv-loop μ-loop
-slice-write-rows c = omega (arith, c .before .before .pre)
+slice-write-rows c = in-rows c
 
 add-i : tie.Need-add-i Inv-loop μ-loop
 add-i c = search needs
@@ -30,7 +34,9 @@ loop-less : tie.Need-loop-less Inv-loop μ-loop
 loop-less c = search needs
 
 loop-again : tie.Need-loop-again Inv-loop μ-loop
-loop-again c = (search needs, length-set (c .before .loop .rows) (c .before .loop .i) 0 ∙ c .before .loop .inv .1, cleared-more (c .before .loop .rows) (c .before .loop .i) (omega (arith, c .before .before .pre)) (c .before .loop .inv .2))
+loop-again c =
+    let turn = c .before .loop in
+    (search needs, length-set (turn .rows) (turn .i) 0 ∙ turn .inv .1, cleared-more (turn .rows) (turn .i) (in-rows c) (turn .inv .2))
 
 same-length : tie.Need-same-length Inv-loop μ-loop
 same-length c = c .before .loop .inv .1

@@ -1,43 +1,127 @@
 -- `close` meets its contract: what was passed on is closed (`Closing`), and each turn the rows of what was passed on lack less.
-use mathlib.Core.Logic.{_≢_}
-use Prim.Native.Nat.{ℕ, _-_, _≤_, _<_}
+use Prim.Native.Nat.{ℕ, _≤_, _<_}
 use native.Mathlib.Omega.{arith}
+use mathlib.Core.Path.{_≡_, refl, _∙_}
+use mathlib.Core.Bool.{true}
+use lib.ListN.{getD}
+use Rattle.sets.specs.Bits.{member}
+use Rattle.problem.specs.Problem.{Problem}
 use Rattle.problem.specs.Held.{problemOf}
-use Rattle.fresh.specs.Marks.{Marked, valueAt}
-use Rattle.fresh.proofs.Closing.{Closing, closing-start, closing-turn, closing-end, lack, passed-less}
+use Rattle.problem.specs.Look.{Standing}
+use Rattle.demands.specs.Demands.{onNodes, onVariables}
+use Rattle.fresh.specs.Pairs.{Pair}
+use Rattle.fresh.specs.Marks.{doneIn, SoFar, valueAt, Bound, atomOf, newAt}
+use Rattle.fresh.proofs.Closing.{Closing, closing-start, closing-turn, closing-end}
+use Rattle.fresh.proofs.Waiting.{lack, passed-less}
 use Rattle.fresh.proofs.close.Statement.{statement}
 use Rattle.fresh.proofs.close.Tie as tie
 
-below : (n r : ℕ) → r ≤ n → r ≢ n → r < n
-below n r h d = omega arith
-
 abbrev Inv-loop : tie.InvT-loop
-Inv-loop s places atoms variables bound roots value-images seen₀ asked-variables₀ done₀ x₀ seen asked-variables done x = (x ≤ variables) × Closing (problemOf s) (valueAt (problemOf s .atoms) (bound .0) roots value-images) (Marked (problemOf s) seen₀ asked-variables₀) (Marked (problemOf s) seen asked-variables) done
+Inv-loop s places bound made values asked₀ marks₀ atoms variables end x₀ asked marks x =
+    (x .0 ≤ variables) × (onNodes asked ≡ onNodes asked₀)
+    × Closing (problemOf s) (valueAt (problemOf s .atoms) (bound .0) made values)
+    (SoFar (problemOf s) asked₀ marks₀) (SoFar (problemOf s) asked marks) (doneIn marks)
 
 abbrev μ-loop : tie.MeasureT-loop
-μ-loop s places atoms variables bound roots value-images seen₀ asked-variables₀ done₀ x₀ seen asked-variables done x = lack variables done
+μ-loop s places bound made values asked₀ marks₀ atoms variables end x₀ asked marks x = lack variables (doneIn marks)
+
+-- ---- at the start
+
+module _ (c : tie.Start Inv-loop μ-loop) where
+  abbrev problem : Problem
+  problem = problemOf (c .args .s .now)
+
+  stands : Standing (c .args .s .now) (c .args .places .now)
+  stands = c .pre .0 .0
+
+  bound-values : Bound problem (c .args .bound .0) (c .args .made .now) (c .args .values .now)
+  bound-values = c .pre .0 .1
+
+  all-atoms : c .args .atoms ≡ problem .atoms
+  all-atoms = c .pre .1 .0 .0
+
+  all-variables : c .args .variables ≡ problem .variables
+  all-variables = c .pre .1 .0 .1
+
+  few-variables : c .args .variables ≤ 64
+  few-variables = omega (arith, all-variables, stands .readable .few-variables)
+
+  none-done : (X : ℕ) → X < problem .variables → getD (doneIn (c .args .marks .now)) X 0 ≡ 0
+  none-done X l = c .pre .1 .1 .0 X (omega (arith, all-variables))
+
+  small : (w : Pair) → SoFar problem (c .args .asked .now) (c .args .marks .now) w → atomOf w < problem .atoms
+  small = c .pre .1 .1 .1 .1
+
+-- ---- where the next variable was found
+
+module _ (c : tie.Else1 Inv-loop μ-loop) where
+  abbrev found : tie.After-next Inv-loop μ-loop
+  found = c .before .before .before
+
+  abbrev turn : tie.At-loop Inv-loop μ-loop
+  turn = found .before .before .before
+
+  abbrev start : tie.Start Inv-loop μ-loop
+  start = turn .before .before
+
+  abbrev X : ℕ
+  X = found .next .result .0
+
+  here : X < start .args .variables
+  here = omega (arith, found .next .ensures .most, c .if1 .left)
+
+  few : X < problem start .variables
+  few = omega (arith, here, all-variables start)
+
+  waits : (member (start .args .bound .0) X ≡ true) × (0 < newAt (onVariables (turn .loop .asked)) (doneIn (turn .loop .marks)) X)
+  waits = found .next .ensures .found here
+
+-- ---- what is to be shown, in the code's order
+
+cast-t12 : tie.Need-cast-t12 Inv-loop μ-loop
+cast-t12 c = omega (arith, few-variables (c .before))
 
 loop-holds : tie.Need-loop-holds Inv-loop μ-loop
-loop-holds c = (omega arith, closing-start (problemOf (c .before .args .s .now)) (c .before .pre .0 .0 .readable .named-nodes) (c .before .args .bound .0) (c .before .args .roots .now) (c .before .args .value-images .now) (c .before .pre .0 .3) (c .before .args .done .now) (c .before .pre .1 .1 .0) (λ i l. c .before .pre .1 .0 i (omega (arith, c .before .pre .0 .2))))
+loop-holds c =
+    let start = c .before in
+    let looked = start .pre .1 .1 .1 .0 in
+    (omega arith, refl, closing-start (bound-values start) (stands start .readable .named-nodes) (doneIn (start .args .marks .now)) looked (none-done start))
 
 next-requires : tie.Need-next-requires Inv-loop μ-loop
-next-requires c κs = (c .before .before .loop .inv .0, omega (arith, c .before .before .before .before .pre .0 .2, c .before .before .before .before .pre .0 .0 .readable .few-variables))
+next-requires c κs =
+    let turn = c .before .before in
+    (turn .loop .inv .0, omega (arith, few-variables (turn .before .before)))
 
 pass-on-requires : tie.Need-pass-on-requires Inv-loop μ-loop
-pass-on-requires c κs = let n = c .before .before .before .before .next .ensures in
-    let l = below (c .before .before .before .before .before .before .before .before .before .args .variables) (c .before .before .before .before .next .result) (n .most) (c .before .before .before .if1 .left) in
-    (c .before .before .before .before .before .before .before .before .before .pre .0 .0, c .before .before .before .before .before .before .before .before .before .pre .0 .1, omega (arith, l, c .before .before .before .before .before .before .before .before .before .pre .0 .2, c .before .before .before .before .before .before .before .before .before .pre .0 .0 .readable .few-variables), c .before .before .before .before .before .before .before .before .before .pre .0 .3 .root (c .before .before .before .before .next .result) (n .found l .0), n .found l .1)
+pass-on-requires c κs =
+    let one = c .before .before in
+    let begun = start one in
+    let there = bound-values begun .nodes (X one) (waits one .0) in
+    ((stands begun, all-atoms begun), ((omega (arith, here one, few-variables begun), there), waits one .1))
 
 loop-less : tie.Need-loop-less Inv-loop μ-loop
-loop-less c = let l = below (c .before .before .before .before .before .before .before .before .before .before .args .variables) (c .before .before .before .before .before .next .result) (c .before .before .before .before .before .next .ensures .most) (c .before .before .before .before .if1 .left) in
-    passed-less (c .before .before .before .before .before .before .before .before .before .before .args .variables) (problemOf (c .before .before .before .before .before .before .before .before .before .before .args .s .now)) (c .before .before .before .before .before .before .before .before .before .before .args .roots .now) (c .before .before .before .before .before .before .before .before .before .before .args .value-images .now) (c .before .before .before .before .before .next .result) (c .before .before .before .before .before .before .before .before .loop .asked-variables) (c .before .before .before .before .before .before .before .before .loop .done) _ l (c .pass-on .ensures)
+loop-less c = passed-less _ (here (c .before .before .before)) (c .pass-on .ensures)
 
 loop-again : tie.Need-loop-again Inv-loop μ-loop
-loop-again c = let l = below (c .before .before .before .before .before .before .before .before .before .before .args .variables) (c .before .before .before .before .before .next .result) (c .before .before .before .before .before .next .ensures .most) (c .before .before .before .before .if1 .left) in
-    (omega (arith, l), closing-turn (problemOf (c .before .before .before .before .before .before .before .before .before .before .args .s .now)) (c .before .before .before .before .before .before .before .before .before .before .pre .0 .0 .readable .named-nodes) (c .before .before .before .before .before .before .before .before .before .before .args .bound .0) (c .before .before .before .before .before .before .before .before .before .before .args .roots .now) (c .before .before .before .before .before .before .before .before .before .before .args .value-images .now) (c .before .before .before .before .before .before .before .before .before .before .pre .0 .3) (c .before .before .before .before .before .before .before .before .loop .seen) (c .before .before .before .before .before .before .before .before .loop .asked-variables) (c .before .before .before .before .before .before .before .before .loop .done) _ (c .before .before .before .before .before .before .before .before .before .before .pre .1 .1 .1) (c .before .before .before .before .before .before .before .before .loop .inv .1) (c .before .before .before .before .before .next .result) (omega (arith, l, c .before .before .before .before .before .before .before .before .before .before .pre .0 .2)) (c .before .before .before .before .before .next .ensures .found l .0) (c .pass-on .ensures))
+loop-again c =
+    let one = c .before .before .before in
+    let begun = start one in
+    let inv = turn one .loop .inv in (
+      omega (arith, here one),
+      c .pass-on .ensures .kept ∙ inv .1,
+      closing-turn (bound-values begun) (stands begun .readable .named-nodes) (small begun) (inv .2) (X one) (few one) (waits one .0) (c .pass-on .ensures),
+    )
 
 returns : tie.Need-returns Inv-loop μ-loop
-returns c = closing-end (problemOf (c .before .before .before .before .before .before .args .s .now)) (c .before .before .before .before .before .before .pre .0 .0 .readable .named-nodes) (c .before .before .before .before .before .before .args .bound .0) (c .before .before .before .before .before .before .args .roots .now) (c .before .before .before .before .before .before .args .value-images .now) (c .before .before .before .before .before .before .pre .0 .3) (c .before .before .before .before .loop .seen) (c .before .before .before .before .loop .asked-variables) (c .before .before .before .before .loop .done) (c .before .before .before .before .loop .inv .1) (λ X l. c .before .next .ensures .none (c .if1 .taken) X (omega (arith, c .before .before .before .before .before .before .pre .0 .2)))
+returns c =
+    let found = c .before .before .before in
+    let turn = found .before .before .before in
+    let start = turn .before .before in
+    let none-waits = found .next .ensures .none (c .if1 .taken) in (
+      closing-end (bound-values start) (stands start .readable .named-nodes) (turn .loop .asked) (turn .loop .marks) (turn .loop .inv .2)
+          (λ Y l. none-waits Y (omega (arith, all-variables start))),
+      turn .loop .inv .1,
+    )
 
 pub close-spec : {M : Type 1} → statement M
 close-spec =
@@ -45,6 +129,7 @@ close-spec =
     (tie.spec
     Inv-loop
     μ-loop
+    cast-t12
     loop-holds
     next-requires
     pass-on-requires

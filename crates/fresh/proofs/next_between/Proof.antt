@@ -1,20 +1,26 @@
 -- `next_between` meets its contract: no variable passed waits.
 use Prim.Native.Nat.{ℕ, _-_, _≤_, _<_}
 use native.Mathlib.Omega.{arith}
+use borrow.Author.Count.{below-more}
 use borrow.Author.Needs.{needs}
 use mathlib.Core.Path.{_≡_}
 use mathlib.Core.Bool.{true}
+use mathlib.Core.List.{List}
 use Rattle.sets.specs.Bits.{member}
-use Rattle.fresh.specs.Marks.{newAt}
-use Rattle.fresh.proofs.Closing.{is-waiting, not-waiting, below-one}
+use Rattle.demands.specs.Demands.{onVariables}
+use Rattle.fresh.specs.Marks.{doneIn, newAt}
 use Rattle.fresh.proofs.next_between.Statement.{statement}
 use Rattle.fresh.proofs.next_between.Tie as tie
 
+-- The variable X, if it is not before the first, does not wait.
+abbrev Waits-not : ℕ → List (List ℕ) → List (List ℕ) → ℕ → ℕ → Type 0
+Waits-not bound asked marks first X = first ≤ X → member bound X ≡ true → newAt (onVariables asked) (doneIn marks) X ≡ 0
+
 abbrev Inv-loop : tie.InvT-loop
-Inv-loop bound asked-variables done from to x₀ x = ((x₀ ≤ x) × (x ≤ to)) × ((X : ℕ) → X < x → x₀ ≤ X → member (bound .0) X ≡ true → newAt asked-variables done X ≡ 0)
+Inv-loop bound asked marks to x₀ x = ((x₀ .0 ≤ x .0) × (x .0 ≤ to .0)) × ((X : ℕ) → X < x .0 → Waits-not (bound .0) asked marks (x₀ .0) X)
 
 abbrev μ-loop : tie.MeasureT-loop
-μ-loop bound asked-variables done from to x₀ x = to - x
+μ-loop bound asked marks to x₀ x = to .0 - x .0
 
 loop-holds : tie.Need-loop-holds Inv-loop μ-loop
 loop-holds c = ((omega arith, omega arith), λ X l m. absurd (omega arith))
@@ -23,19 +29,28 @@ waits-requires : tie.Need-waits-requires Inv-loop μ-loop
 waits-requires c κs = search needs
 
 returns : tie.Need-returns Inv-loop μ-loop
-returns c = record { within = omega arith; found = λ l. is-waiting (c .before .before .before .before .before .before .args .bound .0) (c .before .before .before .before .before .loop .x) (c .before .before .before .before .before .before .args .asked-variables .now) (c .before .before .before .before .before .before .args .done .now) (c .before .waits .result) (c .before .waits .ensures) (c .if1 .taken); none = λ e. absurd (omega arith) }
+returns c = record { within = omega arith; found = λ l. c .before .waits .ensures .found (c .if2 .taken); none = λ e. absurd (omega arith) }
 
-add-x : tie.Need-add-x Inv-loop μ-loop
-add-x c = search needs
+add-t9 : tie.Need-add-t9 Inv-loop μ-loop
+add-t9 c = search needs
 
 loop-less : tie.Need-loop-less Inv-loop μ-loop
 loop-less c = search needs
 
 loop-again : tie.Need-loop-again Inv-loop μ-loop
-loop-again c = ((omega arith, omega arith), below-one (λ X. c .before .before .before .before .before .before .args .from ≤ X → member (c .before .before .before .before .before .before .args .bound .0) X ≡ true → newAt (c .before .before .before .before .before .before .args .asked-variables .now) (c .before .before .before .before .before .before .args .done .now) X ≡ 0) (c .before .before .before .before .before .loop .x) (c .before .before .before .before .before .loop .inv .1) (λ m. not-waiting (c .before .before .before .before .before .before .args .bound .0) (c .before .before .before .before .before .loop .x) (c .before .before .before .before .before .before .args .asked-variables .now) (c .before .before .before .before .before .before .args .done .now) (c .before .waits .result) (c .before .waits .ensures) (c .if1 .left)))
+loop-again c =
+    let waited = c .before .before in
+    let turn = waited .before .before .before .before in
+    let args = turn .before .args in (
+      (omega arith, omega arith),
+      below-more (Waits-not (args .bound .0) (args .asked .now) (args .marks .now) (args .from .0)) (turn .loop .x .0) (turn .loop .inv .1)
+          (λ m. waited .waits .ensures .none (c .before .if2 .left)),
+    )
 
 returns-2 : tie.Need-returns-2 Inv-loop μ-loop
-returns-2 c = record { within = c .before .loop .inv .0 .1; found = λ l. absurd (omega arith); none = λ e X m l. c .before .loop .inv .1 X (omega arith) m }
+returns-2 c =
+    let turn = c .before .before .before in
+    record { within = turn .loop .inv .0 .1; found = λ l. absurd (omega arith); none = λ e X m l. turn .loop .inv .1 X (omega arith) m }
 
 pub next-between-spec : {M : Type 1} → statement M
 next-between-spec =
@@ -46,7 +61,7 @@ next-between-spec =
     loop-holds
     waits-requires
     returns
-    add-x
+    add-t9
     loop-less
     loop-again
     returns-2)

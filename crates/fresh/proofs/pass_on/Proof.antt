@@ -1,59 +1,128 @@
 -- `pass_on` meets its contract: what was passed on grows, and the value's node is visited.
-use Prim.Native.Nat.{ℕ, _-_}
+use Prim.Native.Nat.{ℕ, _<_, _^_}
 use native.Mathlib.Omega.{arith}
 use borrow.Author.Needs.{needs}
-use mathlib.Core.Path.{_∙_, ap}
-use lib.ListN.{getD}
-use Rattle.sets.specs.Bits.{difference}
+use mathlib.Core.Path.{_≡_}
+use mathlib.Core.List.{List}
+use lib.ListN.{length, getD}
+use Rattle.permutation.specs.Table.{image}
+use Rattle.problem.specs.Problem.{Problem}
 use Rattle.problem.specs.Held.{problemOf}
-use Rattle.fresh.specs.Marks.{newAt}
+use Rattle.bindings.specs.Bindings.{nodeOf, imagesOf}
+use Rattle.demands.specs.Demands.{onVariables}
+use Rattle.fresh.specs.Marks.{doneIn, added, sentInto, newAt}
 use Rattle.fresh.proofs.Closing.{passed-on}
 use Rattle.fresh.proofs.pass_on.Statement.{statement}
 use Rattle.fresh.proofs.pass_on.Tie as tie
 
-atoms-at-requires : tie.Need-atoms-at-requires
-atoms-at-requires c κs = search needs
+-- ---- where the new atoms were found
 
-atoms-at-requires-2 : tie.Need-atoms-at-requires-2
-atoms-at-requires-2 c κs = search needs
+module _ (c : tie.After-new-at) where
+  abbrev start : tie.Start
+  start = c .before .before .before .before .before .before
 
-minus-requires : tie.Need-minus-requires
-minus-requires c κs = search needs
+  abbrev problem : Problem
+  problem = problemOf (start .args .s .now)
+
+  abbrev asked : List (List ℕ)
+  asked = start .args .asked .now
+
+  abbrev marks : List (List ℕ)
+  marks = start .args .marks .now
+
+  abbrev X : ℕ
+  X = start .args .x .0
+
+  abbrev new : ℕ
+  new = c .new-at .result .0
+
+  two-asked : length asked ≡ 2
+  two-asked = c .before .before .before .new-at-arg2 .given .0
+
+  two-marks : length marks ≡ 2
+  two-marks = c .before .new-at-arg4 .given .0
+
+  is-new : new ≡ newAt (onVariables asked) (doneIn marks) X
+  is-new = c .new-at .ensures .0
+
+  new-word : new < 2 ^ 32
+  new-word = omega (arith, c .new-at .ok)
+
+  done-word : getD (doneIn marks) X 0 < 2 ^ 32
+  done-word = c .new-at .ensures .1
+
+-- ---- where the value's node was found
+
+module _ (c : tie.After-node-of) where
+  abbrev recorded : tie.After-add-atoms
+  recorded = c .before .before
+
+  abbrev found : tie.After-new-at
+  found = recorded .before .before .before
+
+  in-done : X found < length (doneIn (marks found))
+  in-done = omega (arith, start found .pre .1 .0 .0, recorded .before .before .add-atoms-arg .given)
+
+  is-done : recorded .add-atoms .last .0 ≡ added (doneIn (marks found)) (X found) (new found)
+  is-done = recorded .add-atoms .ensures
+
+  is-sent : c .before .through-images .result .0
+      ≡ sentInto (problem found .atoms) (image (imagesOf (problem found .atoms) (start found .args .values .now) (X found))) (new found)
+  is-sent = rw (start found .pre .0 .1) at (c .before .through-images .ensures)
+
+  is-node : c .node-of .result .0 ≡ nodeOf (start found .args .made .now) (X found)
+  is-node = c .node-of .ensures
+
+-- ---- what is to be shown, in the code's order
+
+new-at-requires : tie.Need-new-at-requires
+new-at-requires c κs = search needs
+
+index-1-add-atoms : tie.Need-index-1-add-atoms
+index-1-add-atoms c = search needs
+
+cast-add-atoms : tie.Need-cast-add-atoms
+cast-add-atoms c = search needs
 
 add-atoms-requires : tie.Need-add-atoms-requires
 add-atoms-requires c κs = search needs
 
-load-requires : tie.Need-load-requires
-load-requires c κs = search needs
-
 through-images-requires : tie.Need-through-images-requires
 through-images-requires c κs = search needs
 
-number-requires : tie.Need-number-requires
-number-requires c κs = search needs
+node-of-requires : tie.Need-node-of-requires
+node-of-requires c κs = search needs
+
+index-1-visit : tie.Need-index-1-visit
+index-1-visit c = search needs
+
+index-1-visit-2 : tie.Need-index-1-visit-2
+index-1-visit-2 c = search needs
 
 visit-requires : tie.Need-visit-requires
-visit-requires c κs = (c .before .before .before .before .before .before .before .before .before .before .before .before .before .before .before .before .before .pre .0, rw (c .before .before .number .ensures) (c .before .before .before .before .before .before .before .before .before .before .before .before .before .before .before .before .before .pre .3))
+visit-requires c κs =
+    let here = c .before .before in
+    let pre = start (found here) .pre in
+    (pre .0 .0, rw (is-node here) (pre .1 .0 .1))
 
 returns : tie.Need-returns
-unfolding newAt
-returns c = passed-on (problemOf (c .before .before .before .before .before .before .before .before .before .before .before .before .before .before .before .before .before .before .args .s .now)) (c .before .before .before .before .before .before .before .before .before .before .before .before .before .before .before .before .before .before .args .roots .now) (c .before .before .before .before .before .before .before .before .before .before .before .before .before .before .before .before .before .before .args .value-images .now) (c .before .before .before .before .before .before .before .before .before .before .before .before .before .before .before .before .before .before .args .x) (c .before .before .before .before .before .before .before .before .before .before .before .before .before .before .before .before .before .before .args .asked-variables .now) (c .before .before .before .before .before .before .before .before .before .before .before .before .before .before .before .before .before .before .args .done .now) _ _ _
-    (c .before .before .before .before .before .before .before .before .before .before .before .before .before .before .before .before .before .before .args .atoms) (c .before .before .before .before .before .before .before .before .before .before .minus .result .0) (c .before .before .before .before .before .through-images .result .0) (c .before .before .before .number .result) (c .before .before .before .before .before .before .load .result)
-    (c .before .before .before .before .before .before .before .before .before .before .before .before .before .before .before .before .before .before .pre .1) (omega (arith, c .before .before .before .before .before .before .before .before .before .before .before .before .before .before .before .before .before .before .pre .1, c .before .before .before .before .before .before .before .before .before .before .before .before .before .before .before .before .before .before .pre .0 .readable .few-atoms)) (omega (arith, c .before .before .before .before .before .before .before .load-arg .given, c .before .before .before .before .before .before .before .before .before .before .before .before .before .before .before .before .before .before .pre .2)) (omega (arith, c .before .before .before .before .before .before .before .before .before .add-atoms-arg .given, c .before .before .before .before .before .before .before .before .before .before .before .before .before .before .before .before .before .before .pre .2))
-    (omega (arith, c .before .before .before .before .before .before .before .before .before .before .before .atoms-at2 .ensures)) (omega (arith, c .before .before .before .before .before .before .before .before .before .before .before .before .before .before .atoms-at .ensures, c .before .before .before .before .before .before .before .before .before .before .before .before .before .before .atoms-at .ok)) (c .before .before .before .before .before .before .before .before .before .before .before .before .before .before .before .before .before .before .pre .4)
-    (c .before .before .before .before .before .before .before .before .before .before .minus .ensures ∙ ap (λ (w : ℕ). difference w (c .before .before .before .before .before .before .before .before .before .before .before .atoms-at2 .result .0)) (c .before .before .before .before .before .before .before .before .before .before .before .before .before .before .atoms-at .ensures) ∙ ap (difference (getD (c .before .before .before .before .before .before .before .before .before .before .before .before .before .before .before .before .before .before .args .asked-variables .now) (c .before .before .before .before .before .before .before .before .before .before .before .before .before .before .before .before .before .before .args .x) 0)) (c .before .before .before .before .before .before .before .before .before .before .before .atoms-at2 .ensures))
-    (c .before .before .before .before .before .before .before .before .add-atoms .ensures) (c .before .before .before .before .before .before .load .ensures) (c .before .before .before .before .before .through-images .ensures) (c .before .before .before .number .ensures) (c .visit .ensures)
+returns c =
+    let here = c .before .before .before in
+    let waits = start (found here) .pre .1 .1 in
+    passed-on (two-asked (found here)) (two-marks (found here)) (in-done here) (done-word (found here)) (new-word (found here)) waits
+    (is-new (found here)) (is-done here) (rw (← is-sent here, ← is-node here) (c .visit .ensures))
 
 pub pass-on-spec : {M : Type 1} → statement M
 pass-on-spec =
     tie.close
     (tie.spec
-    atoms-at-requires
-    atoms-at-requires-2
-    minus-requires
+    new-at-requires
+    index-1-add-atoms
+    cast-add-atoms
     add-atoms-requires
-    load-requires
     through-images-requires
-    number-requires
+    node-of-requires
+    index-1-visit
+    index-1-visit-2
     visit-requires
     returns)

@@ -29,7 +29,9 @@ shared-slice-read-t12 : tie.Need-shared-slice-read-t12 Inv-loop μ-loop
 shared-slice-read-t12 c = search needs
 
 exchange-requires : tie.Need-exchange-requires Inv-loop μ-loop
-exchange-requires c κs = passing-names (c .before .before .before .before .before .args .swaps .now) (c .before .before .before .before .before .args .atoms .0) (c .before .before .before .loop .i) (c .before .before .before .loop .r .0) (c .before .before .before .loop .inv .1) (c .before .before .loop-test .taken)
+exchange-requires c κs =
+    let in-loop = c .before .before in
+    passing-names (in-loop .before .loop .inv .1) (in-loop .loop-test .taken)
 
 add-i : tie.Need-add-i Inv-loop μ-loop
 add-i c = search needs
@@ -38,10 +40,12 @@ loop-less : tie.Need-loop-less Inv-loop μ-loop
 loop-less c = search needs
 
 loop-again : tie.Need-loop-again Inv-loop μ-loop
-loop-again c = (search needs, rw (c .exchange .ensures) (passing-more (c .before .before .before .before .before .before .args .swaps .now) (c .before .before .before .before .before .before .args .atoms .0) (c .before .before .before .before .loop .i) (c .before .before .before .before .loop .r .0) (c .before .before .before .before .loop .inv .1) (c .before .before .before .loop-test .taken)))
+loop-again c =
+    let in-loop = c .before .before .before in
+    (search needs, rw (c .exchange .ensures) (passing-more (in-loop .before .loop .inv .1) (in-loop .loop-test .taken)))
 
 returns : tie.Need-returns Inv-loop μ-loop
-returns c = passing-all (c .before .before .before .args .swaps .now) (c .before .before .before .args .atoms .0) (c .before .loop .i) (c .before .loop .r .0) (c .before .loop .inv .1) (rw length-drop (omega arith))
+returns c = passing-all (c .before .loop .inv .1) (rw length-drop (omega arith))
 
 pub through-swaps-spec : {M : Type 1} → statement M
 through-swaps-spec =

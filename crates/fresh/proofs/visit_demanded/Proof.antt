@@ -1,29 +1,83 @@
--- `visit_demanded` meets its contract: after each turn the nodes passed are visited (`Beginning`).
-use Prim.Native.Nat.{_-_, _≤_}
+-- `visit_demanded` meets its contract: after each turn the nodes passed are visited (`Beginning`), and what is demanded of nodes stays.
+use Prim.Native.Nat.{ℕ, _-_, _≤_, _<_}
 use native.Mathlib.Omega.{arith}
 use borrow.Author.Needs.{needs}
 use borrow.Author.Tests.{eqb-true}
-use mathlib.Core.Path.{_≡_, sym, _∙_}
-use lib.ListN.{length}
+use mathlib.Core.Path.{_≡_, refl, sym, _∙_, ap}
+use mathlib.Core.List.{List, []}
+use lib.ListN.{length, getD}
+use lib.Seq.{getD-set-same, getD-set-other}
+use Rattle.problem.specs.Problem.{Problem}
 use Rattle.problem.specs.Held.{problemOf}
-use Rattle.fresh.proofs.Closing.{Beginning, beginning-start, beginning-more, beginning-skip, beginning-end}
+use Rattle.problem.specs.Look.{Standing}
+use Rattle.demands.specs.Demands.{onNodes, onVariables}
+use Rattle.fresh.proofs.Beginning.{Beginning, beginning-start, beginning-more, beginning-skip, beginning-end}
 use Rattle.fresh.proofs.visit_demanded.Statement.{statement}
 use Rattle.fresh.proofs.visit_demanded.Tie as tie
 
 abbrev Inv-loop : tie.InvT-loop
-Inv-loop s places nodes asked-nodes seen₀ asked-variables₀ n₀ seen asked-variables n = (n ≤ nodes) × Beginning (problemOf s) asked-nodes asked-variables₀ n seen asked-variables
+Inv-loop s places asked₀ seen₀ nodes n₀ asked seen n =
+    (n ≤ nodes) × (onNodes asked ≡ onNodes asked₀) × Beginning (problemOf s) (onNodes asked₀) (onVariables asked₀) n seen (onVariables asked)
 
 abbrev μ-loop : tie.MeasureT-loop
-μ-loop s places nodes asked-nodes seen₀ asked-variables₀ n₀ seen asked-variables n = nodes - n
+μ-loop s places asked₀ seen₀ nodes n₀ asked seen n = nodes - n
+
+-- ---- at the start
+
+module _ (c : tie.Start Inv-loop μ-loop) where
+  abbrev problem : Problem
+  problem = problemOf (c .args .s .now)
+
+  stands : Standing (c .args .s .now) (c .args .places .now)
+  stands = c .pre .0 .0
+
+  all-nodes : c .args .nodes ≡ length (problem .nodes)
+  all-nodes = c .pre .0 .1
+
+  none-seen : (i : ℕ) → i < length (problem .nodes) → getD (c .args .seen .now) i 0 ≡ 0
+  none-seen i l = c .pre .1 i (omega (arith, all-nodes))
+
+-- ---- in a turn
+
+module _ (c : tie.In-loop Inv-loop μ-loop) where
+  abbrev start : tie.Start Inv-loop μ-loop
+  start = c .before .before .before
+
+  abbrev turn : tie.At-loop Inv-loop μ-loop
+  turn = c .before
+
+  few : turn .loop .n < length (problem start .nodes)
+  few = omega (arith, all-nodes start, c .loop-test .taken)
+
+  few-nodes : turn .loop .n < 512
+  few-nodes = omega (arith, few, stands start .readable .few-nodes)
+
+-- ---- where the atoms demanded of the node are read
+
+module _ (c : tie.After-demanded-of Inv-loop μ-loop) where
+  abbrev in-turn : tie.In-loop Inv-loop μ-loop
+  in-turn = c .before .before .before
+
+  abbrev asked : List (List ℕ)
+  asked = turn in-turn .loop .asked
+
+  two-columns : length asked ≡ 2
+  two-columns = c .before .demanded-of-arg2 .given .0
+
+  -- They are those that were demanded at first.
+  as-demanded : c .demanded-of .result .0 ≡ getD (onNodes (start in-turn .args .asked .now)) (turn in-turn .loop .n) 0
+  as-demanded = c .demanded-of .ensures ∙ ap (λ (t : List ℕ). getD t (turn in-turn .loop .n) 0) (turn in-turn .loop .inv .1)
+
+-- ---- what is to be shown, in the code's order
 
 loop-holds : tie.Need-loop-holds Inv-loop μ-loop
-loop-holds c = (omega arith, beginning-start (problemOf (c .before .args .s .now)) (c .before .args .asked-nodes .now) (c .before .args .asked-variables .now) (c .before .args .seen .now) (λ i l. c .before .pre .1 i (omega (arith, c .before .pre .0 .1))))
+loop-holds c = (omega arith, refl, beginning-start _ _ _ (c .before .args .seen .now) (none-seen (c .before)))
 
-atoms-at-requires : tie.Need-atoms-at-requires Inv-loop μ-loop
-atoms-at-requires c κs = omega (arith, c .before .before .before .before .pre .0 .0 .readable .few-nodes, c .before .before .before .before .pre .0 .1, c .atoms-at-arg .given)
+cast-t10 : tie.Need-cast-t10 Inv-loop μ-loop
+cast-t10 c = omega (arith, few-nodes c)
 
-cast-t13 : tie.Need-cast-t13 Inv-loop μ-loop
-cast-t13 c = omega (arith, c .before .before .before .before .before .pre .0 .0 .readable .few-nodes, c .before .before .before .before .before .pre .0 .1)
+demanded-of-requires : tie.Need-demanded-of-requires Inv-loop μ-loop
+demanded-of-requires c κs = (omega (arith, c .demanded-of-arg2 .given .0), few-nodes (c .before .before))
 
 add-n : tie.Need-add-n Inv-loop μ-loop
 add-n c = search needs
@@ -35,19 +89,41 @@ loop-less : tie.Need-loop-less Inv-loop μ-loop
 loop-less c = search needs
 
 loop-again : tie.Need-loop-again Inv-loop μ-loop
-loop-again c = (search needs, beginning-skip _ _ _ (c .before .before .before .before .before .loop .n) _ _ (sym (c .before .before .atoms-at .ensures) ∙ eqb-true _ 0 (sym (c .before .is-empty .ensures) ∙ c .if1 .taken)) (c .before .before .before .before .before .loop .inv .1))
+loop-again c =
+    let read = c .before .before in
+    let inv = turn (in-turn read) .loop .inv in
+    let none-here = sym (as-demanded read) ∙ eqb-true _ 0 (sym (c .before .is-empty .ensures) ∙ c .if1 .taken) in
+    (search needs, inv .1, beginning-skip _ _ _ (turn (in-turn read) .loop .n) none-here (inv .2))
+
+index-1-visit : tie.Need-index-1-visit Inv-loop μ-loop
+index-1-visit c = search needs
 
 visit-requires : tie.Need-visit-requires Inv-loop μ-loop
-visit-requires c κs = (c .before .before .before .before .before .before .before .before .before .pre .0 .0, omega (arith, c .before .before .before .before .before .before .before .before .before .pre .0 .1, c .before .before .before .before .before .before .loop-test .taken))
+visit-requires c κs =
+    let in-loop = in-turn (c .before .before .before .before) in
+    (stands (start in-loop), few in-loop)
 
 loop-less-2 : tie.Need-loop-less-2 Inv-loop μ-loop
 loop-less-2 c = search needs
 
 loop-again-2 : tie.Need-loop-again-2 Inv-loop μ-loop
-loop-again-2 c = (search needs, beginning-more _ _ _ (c .before .before .before .before .before .before .before .before .loop .n) _ _ _ _ _ (omega (arith, c .before .before .before .before .before .before .before .before .before .before .pre .0 .1, c .before .before .before .before .before .before .before .loop-test .taken)) (c .before .before .before .before .before .atoms-at .ensures) (c .before .before .before .before .before .before .before .before .loop .inv .1) (c .visit .ensures))
+loop-again-2 c =
+    let read = c .before .before .before .before .before in
+    let inv = turn (in-turn read) .loop .inv in
+    let variables = c .visit .last .1 .1 .1 .1 .1 .0 in
+    let written = getD-set-same (asked read) 1 variables [] (omega (arith, two-columns read)) in (
+      search needs,
+      getD-set-other (asked read) 1 0 variables [] (λ q. omega arith) ∙ inv .1,
+      rw written (beginning-more _ _ _ (turn (in-turn read) .loop .n) (read .demanded-of .result .0) (few (in-turn read)) (as-demanded read)
+          (inv .2) (c .visit .ensures)),
+    )
 
 returns : tie.Need-returns Inv-loop μ-loop
-returns c = let e : c .before .loop .n ≡ length (problemOf (c .before .before .before .args .s .now) .nodes) = omega (arith, c .before .before .before .pre .0 .1) in beginning-end (problemOf (c .before .before .before .args .s .now)) (c .before .before .before .args .asked-nodes .now) (c .before .before .before .args .asked-variables .now) _ _ (rw (← e) (c .before .loop .inv .1))
+returns c =
+    let turn = c .before in
+    let start = turn .before .before in
+    let all : turn .loop .n ≡ length (problem start .nodes) = omega (arith, all-nodes start) in
+    (beginning-end _ _ _ (rw (← all) (turn .loop .inv .2)), turn .loop .inv .1)
 
 pub visit-demanded-spec : {M : Type 1} → statement M
 visit-demanded-spec =
@@ -56,12 +132,13 @@ visit-demanded-spec =
     Inv-loop
     μ-loop
     loop-holds
-    atoms-at-requires
-    cast-t13
+    cast-t10
+    demanded-of-requires
     add-n
     is-empty-requires
     loop-less
     loop-again
+    index-1-visit
     visit-requires
     loop-less-2
     loop-again-2

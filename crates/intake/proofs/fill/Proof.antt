@@ -4,7 +4,7 @@ use native.Mathlib.Omega.{arith}
 use mathlib.Core.List.{List}
 use mathlib.Core.Bool.{Bool, false}
 use mathlib.Core.Logic.{inl, inr}
-use mathlib.Core.Path.{_≡_, refl, sym, _∙_, subst}
+use mathlib.Core.Path.{_≡_, refl, sym, _∙_}
 use lib.ListN.{length, take}
 use lib.Seq.{length-take-le}
 use borrow.Rule.Slice.PartMut.{midOf, putMid, same-len-mid, mid-len}
@@ -88,17 +88,22 @@ same-length c =
 
 returns : tie.Need-returns Inv-loop μ-loop
 returns c =
-    let read = c .before .before .before .before .before in
+    let at-moved = c .before .before in
+    let back-5 = at-moved .before .before .before in
+    let read = back-5 in
     let t = at-read read in
-    let moved = c .before .before .moved .ensures in
+    let moved = at-moved .moved .ensures in
     stopped _ _ (read .read .result) _ (omega arith) (omega arith) (omega arith) (c .failed .ensures)
 
 add-done : tie.Need-add-done Inv-loop μ-loop
 add-done c =
-    let t = at-read (c .before .before .before .before) in
-    let moved = c .before .moved .ensures in
+    let at-moved = c .before in
+    let back-4 = at-moved .before .before .before in
+    let at-good = back-4 .before .before .before .before .before .before in
+    let t = at-read (back-4) in
+    let moved = at-moved .moved .ensures in
     let some = c .if1 .left in
-    omega (arith, c .before .before .before .before .before .before .before .before .before .before .good .1 .0 .0)
+    omega (arith, at-good .good .1 .0 .0)
 
 loop-less : tie.Need-loop-less Inv-loop μ-loop
 loop-less c =

@@ -5,7 +5,7 @@ use mathlib.Core.List.{List}
 use mathlib.Core.Path.{_≡_, _∙_, ap}
 use lib.ListN.{length}
 use Rattle.run.specs.Answer as run
-use Rattle.numbers.specs.Verdicts.{judgementOf}
+use Rattle.numbers.specs.Verdicts.{judgementGiven}
 use Rattle.numbers.specs.declared.Judgement.{Judgement}
 use Rattle.printer.specs.Lines.{judgeLine}
 use Rattle.printer.specs.Placed.{Placed}
@@ -18,7 +18,7 @@ use Rattle.judge.proofs.work.Tie as tie
 
 -- What is printed of the number and the place is the line, where the judge gave back what the definition says; and it is there whole.
 told :
-    {n p r : ℕ} {d e : List ℕ} (k : Judgement) (j : run.Judgement) → judgementOf k ≡ j → (n ≡ judgementOf k .0) × (p ≡ judgementOf k .1) →
+    {n p r : ℕ} {d e : List ℕ} (k : Judgement) (j : run.Judgement) → judgementGiven k ≡ j → (n ≡ judgementGiven k .0) × (p ≡ judgementGiven k .1) →
     n < 256 → p < 18446744073709551616 → 33 ≤ length d →
     Placed d 0 (judgeLine n p) r e → Works j e (record { given = record { number = n; place = p }; end = r })
 told {n} {p} {r} {d} {e} k j f a x y m h =

@@ -1,5 +1,4 @@
 -- `notice::in_comment` goes by the two ways out.
-use borrow.Author.Needs.{needs}
 use Rattle.notice.proofs.in_comment.Statement.{statement}
 use Rattle.notice.proofs.in_comment.Tie as tie
 

@@ -1,29 +1,63 @@
 -- `occurs::reaches` looks through each bound variable that is reached, once: what waits grows smaller at each turn.
-use Prim.Native.Nat.{_<_}
-use mathlib.Core.Path.{_≡_, sym, _∙_}
+use Prim.Native.Nat.{ℕ, _<_}
+use mathlib.Core.Path.{_≡_, sym, _∙_, ap}
 use mathlib.Core.Bool.{true, false}
+use mathlib.Core.List.{List}
+use lib.ListN.{getD}
 use native.Mathlib.Omega.{arith}
 use borrow.Author.Needs.{needs}
 use lib.Dec.{eqb}
-use Rattle.sets.specs.Bits.{member, count}
+use Rattle.sets.specs.Bits.{member, union, removed, count}
+use Rattle.occurs.specs.Reached.{behind}
 use Rattle.occurs.proofs.Sets.{Looking, looking-none, looking-more, looking-all, unseen-small, unseen-bound, unseen-less}
 use Rattle.occurs.proofs.reaches.Statement.{statement}
 use Rattle.occurs.proofs.reaches.Tie as tie
 
 abbrev Inv-loop : tie.InvT-loop
-Inv-loop roots node-variables reach₀ waiting₀ reach waiting = Looking (waiting₀ .0) roots node-variables (reach₀ .0) (waiting .0) (reach .0)
+Inv-loop node-variables made reach₀ waiting₀ reach waiting =
+    Looking (waiting₀ .0) made node-variables (reach₀ .0) (waiting .0) (reach .0)
 
 abbrev μ-loop : tie.MeasureT-loop
-μ-loop roots node-variables reach₀ waiting₀ reach waiting = count (waiting .0)
+μ-loop node-variables made reach₀ waiting₀ reach waiting = count (waiting .0)
 
-some : (c : tie.Else1 Inv-loop μ-loop) → eqb (c .before .before .intersection .result .0) 0 ≡ false
-some c = sym (c .before .is-empty .ensures) ∙ c .if1 .left
+-- ---- where a variable is reached that was not looked through
 
-small : (c : tie.After-lowest Inv-loop μ-loop) → c .lowest .result .0 < 64
-small c = unseen-small (c .before .before .before .before .before .before .args .node-variables .now) (c .before .before .before .before .loop .inv) (c .before .before .before .intersection .result .0) (c .lowest .result .0) (c .before .before .before .intersection .ensures) (some (c .before)) (c .lowest .ensures)
+module _ (c : tie.After-lowest Inv-loop μ-loop) where
+  abbrev start : tie.Start Inv-loop μ-loop
+  start = c .before .before .before .before .before .before
 
-known : (c : tie.After-lowest Inv-loop μ-loop) → member (c .before .before .before .before .before .before .args .bound .0) (c .lowest .result .0) ≡ true
-known c = unseen-bound (c .before .before .before .before .before .before .args .node-variables .now) (c .before .before .before .before .loop .inv) (c .before .before .before .intersection .result .0) (c .lowest .result .0) (c .before .before .before .intersection .ensures) (some (c .before)) (c .lowest .ensures)
+  abbrev sets : List ℕ
+  sets = start .args .node-variables .now
+
+  -- What waits and what is reached, at the turn's start.
+  abbrev turn : tie.At-loop Inv-loop μ-loop
+  turn = c .before .before .before .before
+
+  abbrev unseen : ℕ
+  unseen = c .before .before .before .intersection .result .0
+
+  abbrev x : ℕ
+  x = c .lowest .result .0
+
+  some-unseen : eqb unseen 0 ≡ false
+  some-unseen = sym (c .before .before .is-empty .ensures) ∙ c .before .if1 .left
+
+  small : x < 64
+  small = unseen-small sets (turn .loop .inv) unseen x (c .before .before .before .intersection .ensures) some-unseen (c .lowest .ensures)
+
+  is-bound : member (start .args .bound .0) x ≡ true
+  is-bound = unseen-bound sets (turn .loop .inv) unseen x (c .before .before .before .intersection .ensures) some-unseen (c .lowest .ensures)
+
+  less : count (removed (turn .loop .waiting .0) x) < count (turn .loop .waiting .0)
+  less = unseen-less sets (turn .loop .inv) unseen x (c .before .before .before .intersection .ensures) some-unseen (c .lowest .ensures)
+
+  -- Once its value's set is joined, it is looked through.
+  goes-on : (w : ℕ) → w ≡ behind (start .args .made .now) sets x
+      → Looking (start .args .bound .0) (start .args .made .now) sets (c .before .before .before .before .before .variables .result .0)
+      (removed (turn .loop .waiting .0) x) (union (turn .loop .reach .0) w)
+  goes-on = looking-more sets (turn .loop .inv) unseen x (c .before .before .before .intersection .ensures) some-unseen (c .lowest .ensures)
+
+-- ---- what is to be shown, in the code's order
 
 variables-requires : tie.Need-variables-requires Inv-loop μ-loop
 variables-requires c κs = c .pre .0
@@ -38,34 +72,38 @@ is-empty-requires : tie.Need-is-empty-requires Inv-loop μ-loop
 is-empty-requires c κs = search needs
 
 returns : tie.Need-returns Inv-loop μ-loop
-returns c = rw (← c .before .before .before .before .variables .ensures) (looking-all (c .before .before .before .before .before .args .node-variables .now) (c .before .before .before .loop .inv) (c .before .before .intersection .result .0) (c .before .before .intersection .ensures) (sym (c .before .is-empty .ensures) ∙ c .if1 .taken))
+returns c =
+    let at-unseen = c .before .before in
+    let at-loop = at-unseen .before in
+    let none-unseen = sym (c .before .is-empty .ensures) ∙ c .if1 .taken in
+    rw (← at-loop .before .variables .ensures)
+    (looking-all (at-loop .before .before .args .node-variables .now) (at-loop .loop .inv) _ (at-unseen .intersection .ensures) none-unseen)
 
 lowest-requires : tie.Need-lowest-requires Inv-loop μ-loop
 lowest-requires c κs = search needs
 
-cast-i : tie.Need-cast-i Inv-loop μ-loop
-cast-i c = omega (arith, small (c .before))
-
 without-requires : tie.Need-without-requires Inv-loop μ-loop
 without-requires c κs = search needs
 
-mul-t12 : tie.Need-mul-t12 Inv-loop μ-loop
-mul-t12 c = omega (arith, small (c .before .before))
-
-element-copy-out-t15 : tie.Need-element-copy-out-t15 Inv-loop μ-loop
-element-copy-out-t15 c = small (c .before .before)
+node-of-requires : tie.Need-node-of-requires Inv-loop μ-loop
+node-of-requires c κs = small (c .before)
 
 variables-requires-2 : tie.Need-variables-requires-2 Inv-loop μ-loop
-variables-requires-2 c κs = c .before .before .before .before .before .before .before .before .before .pre .1 (c .before .before .before .lowest .result .0) (known (c .before .before .before))
+variables-requires-2 c κs =
+    let at-x = c .before .before in
+    rw (c .node-of .ensures) (start at-x .pre .1 (x at-x) (is-bound at-x))
 
 union-requires : tie.Need-union-requires Inv-loop μ-loop
 union-requires c κs = search needs
 
 loop-less : tie.Need-loop-less Inv-loop μ-loop
-loop-less c = rw (c .before .before .before .without .ensures) (unseen-less (c .before .before .before .before .before .before .before .before .before .before .before .args .node-variables .now) (c .before .before .before .before .before .before .before .before .before .loop .inv) (c .before .before .before .before .before .before .before .before .intersection .result .0) (c .before .before .before .before .before .lowest .result .0) (c .before .before .before .before .before .before .before .before .intersection .ensures) (some (c .before .before .before .before .before .before)) (c .before .before .before .before .before .lowest .ensures))
+loop-less c = rw (c .before .before .before .without .ensures) (less (c .before .before .before .before))
 
 loop-again : tie.Need-loop-again Inv-loop μ-loop
-loop-again c = rw (c .before .before .before .without .ensures, c .union .ensures) (looking-more (c .before .before .before .before .before .before .before .before .before .before .before .args .node-variables .now) (c .before .before .before .before .before .before .before .before .before .loop .inv) (c .before .before .before .before .before .before .before .before .intersection .result .0) (c .before .before .before .before .before .lowest .result .0) (c .before .before .before .before .before .before .before .before .intersection .ensures) (some (c .before .before .before .before .before .before)) (c .before .before .before .before .before .lowest .ensures) (c .before .variables2 .result .0) (c .before .variables2 .ensures))
+loop-again c =
+    let at-x = c .before .before .before .before in
+    let is-behind = c .before .variables2 .ensures ∙ ap (λ n. getD (sets at-x) n 0) (c .before .before .node-of .ensures) in
+    rw (c .before .before .before .without .ensures, c .union .ensures) (goes-on at-x _ is-behind)
 
 pub reaches-spec : {M : Type 1} → statement M
 reaches-spec =
@@ -79,10 +117,8 @@ reaches-spec =
     is-empty-requires
     returns
     lowest-requires
-    cast-i
     without-requires
-    mul-t12
-    element-copy-out-t15
+    node-of-requires
     variables-requires-2
     union-requires
     loop-less

@@ -1,11 +1,57 @@
 -- `occurs::variables_at` makes a node's set by its form, from the sets of its parts, which stand below it.
-use mathlib.Core.Path.{sym, _∙_}
+use Prim.Native.Nat.{ℕ, _<_}
+use mathlib.Core.Path.{_≡_, sym, _∙_}
+use mathlib.Core.List.{List}
 use native.Mathlib.Omega.{arith}
-use Rattle.problem.proofs.Looking.{named-told}
-use Rattle.occurs.proofs.Sets.{variables-unit, variables-atom, variables-abstraction, variables-pair, variables-application, variables-suspension}
 use borrow.Author.Needs.{needs}
+use Rattle.problem.specs.Problem.{Problem, formAt}
+use Rattle.problem.specs.Readable.{Readable, Named}
+use Rattle.problem.specs.Held.{problemOf}
+use Rattle.problem.specs.Look.{untold, ownSwaps}
+use Rattle.problem.specs.declared.Form.{Form}
+use Rattle.problem.proofs.Looking.{named-told}
+use Rattle.occurs.proofs.Sets.{
+  Told,
+  variables-unit,
+  variables-atom,
+  variables-abstraction,
+  variables-pair,
+  variables-application,
+  variables-suspension,
+}
 use Rattle.occurs.proofs.variables_at.Statement.{statement}
 use Rattle.occurs.proofs.variables_at.Tie as tie
+
+-- ---- where the form is read
+
+module _ (c : tie.After-form-of) where
+  abbrev start : tie.Start
+  start = c .before .before
+
+  abbrev problem : Problem
+  problem = problemOf (start .args .s .now)
+
+  abbrev node : ℕ
+  node = start .args .node .0
+
+  abbrev sets : List ℕ
+  sets = start .args .node-variables .now
+
+  readable : Readable problem
+  readable = start .pre .0 .readable
+
+  -- The form, as the code was told it.
+  told : {r : Form} → c .form-of .result ≡ r → Told readable node r
+  told q = sym (c .form-of .ensures) ∙ q
+
+  -- Its parts are below the node, and so they have a row in the table.
+  named : {r : Form} → c .form-of .result ≡ r → Named (problem .atoms) (problem .variables) node (untold (ownSwaps (formAt (problem .nodes) node)) r)
+  named q = named-told readable node (sym q ∙ c .form-of .ensures)
+
+  in-row : (m : ℕ) → m < node → m < 512
+  in-row m h = omega (arith, h, start .pre .1, readable .few-nodes)
+
+-- ---- what is to be shown, in the code's order
 
 form-of-requires : tie.Need-form-of-requires
 form-of-requires c κs = c .before .pre .0 .nodes _ (c .before .pre .1)
@@ -26,16 +72,22 @@ enum-known-form : tie.Need-enum-known-form
 enum-known-form c = search needs
 
 variables-requires : tie.Need-variables-requires
-variables-requires c κs = omega (arith, named-told (c .before .before .before .before .before .pre .0 .readable) (c .before .before .before .before .before .args .node .0) (sym (c .before .form .given .1) ∙ c .before .before .before .form-of .ensures) .1, c .before .before .before .before .before .pre .0 .readable .few-nodes)
+variables-requires c κs =
+    let here = c .before .before .before in
+    in-row here _ (named here (c .before .form .given .1) .1)
 
 enum-known-form-2 : tie.Need-enum-known-form-2
 enum-known-form-2 c = search needs
 
 variables-requires-2 : tie.Need-variables-requires-2
-variables-requires-2 c κs = omega (arith, named-told (c .before .before .before .before .before .pre .0 .readable) (c .before .before .before .before .before .args .node .0) (sym (c .before .form2 .given .1) ∙ c .before .before .before .form-of .ensures) .0, c .before .before .before .before .before .pre .0 .readable .few-nodes)
+variables-requires-2 c κs =
+    let here = c .before .before .before in
+    in-row here _ (named here (c .before .form2 .given .1) .0)
 
 variables-requires-3 : tie.Need-variables-requires-3
-variables-requires-3 c κs = omega (arith, named-told (c .before .before .before .before .before .before .pre .0 .readable) (c .before .before .before .before .before .before .args .node .0) (sym (c .before .before .form2 .given .1) ∙ c .before .before .before .before .form-of .ensures) .1, c .before .before .before .before .before .before .pre .0 .readable .few-nodes)
+variables-requires-3 c κs =
+    let here = c .before .before .before .before in
+    in-row here _ (named here (c .before .before .form2 .given .1) .1)
 
 union-requires : tie.Need-union-requires
 union-requires c κs = search needs
@@ -44,7 +96,9 @@ enum-known-form-3 : tie.Need-enum-known-form-3
 enum-known-form-3 c = search needs
 
 variables-requires-4 : tie.Need-variables-requires-4
-variables-requires-4 c κs = omega (arith, named-told (c .before .before .before .before .before .pre .0 .readable) (c .before .before .before .before .before .args .node .0) (sym (c .before .form3 .given .1) ∙ c .before .before .before .form-of .ensures), c .before .before .before .before .before .pre .0 .readable .few-nodes)
+variables-requires-4 c κs =
+    let here = c .before .before .before in
+    in-row here _ (named here (c .before .form3 .given .1))
 
 enum-known-form-4 : tie.Need-enum-known-form-4
 enum-known-form-4 c = search needs
@@ -56,22 +110,39 @@ with-requires : tie.Need-with-requires
 with-requires c κs = search needs
 
 returns : tie.Need-returns
-returns c = variables-unit (c .before .before .before .before .before .pre .0 .readable) (c .before .before .before .before .before .args .node .0) (sym (c .before .before .before .form-of .ensures) ∙ c .before .enum-told .given .1) _ (c .empty .ensures)
+returns c =
+    let here = c .before .before .before in
+    variables-unit (readable here) (node here) (told here (c .before .enum-told .given .1)) _ (c .empty .ensures)
 
 returns-2 : tie.Need-returns-2
-returns-2 c = variables-atom (c .before .before .before .before .before .pre .0 .readable) (c .before .before .before .before .before .args .node .0) _ (sym (c .before .before .before .form-of .ensures) ∙ c .before .enum-told2 .given .1) _ (c .empty2 .ensures)
+returns-2 c =
+    let here = c .before .before .before in
+    variables-atom (readable here) (node here) _ (told here (c .before .enum-told2 .given .1)) _ (c .empty2 .ensures)
 
 returns-3 : tie.Need-returns-3
-returns-3 c = variables-abstraction (c .before .before .before .before .before .before .pre .0 .readable) (c .before .before .before .before .before .before .args .node .0) (c .before .before .before .before .before .before .args .node-variables .now) (c .before .before .before .before .before .before .pre .2) _ _ (sym (c .before .before .before .before .form-of .ensures) ∙ c .before .before .form .given .1) _ (c .variables .ensures)
+returns-3 c =
+    let here = c .before .before .before .before in
+    let known = told here (c .before .before .form .given .1) in
+    variables-abstraction (readable here) (node here) (sets here) (start here .pre .2) _ _ known _ (c .variables .ensures)
 
 returns-4 : tie.Need-returns-4
-returns-4 c = variables-pair (c .before .before .before .before .before .before .before .before .pre .0 .readable) (c .before .before .before .before .before .before .before .before .args .node .0) (c .before .before .before .before .before .before .before .before .args .node-variables .now) (c .before .before .before .before .before .before .before .before .pre .2) _ _ (sym (c .before .before .before .before .before .before .form-of .ensures) ∙ c .before .before .before .before .form2 .given .1) _ (c .union .ensures ∙ rw (c .before .before .variables2 .ensures, c .before .variables3 .ensures))
+returns-4 c =
+    let here = c .before .before .before .before .before .before in
+    let known = told here (c .before .before .before .before .form2 .given .1) in
+    variables-pair (readable here) (node here) (sets here) (start here .pre .2) _ _ known _
+    (c .union .ensures ∙ rw (c .before .before .variables2 .ensures, c .before .variables3 .ensures))
 
 returns-5 : tie.Need-returns-5
-returns-5 c = variables-application (c .before .before .before .before .before .before .pre .0 .readable) (c .before .before .before .before .before .before .args .node .0) (c .before .before .before .before .before .before .args .node-variables .now) (c .before .before .before .before .before .before .pre .2) _ _ (sym (c .before .before .before .before .form-of .ensures) ∙ c .before .before .form3 .given .1) _ (c .variables4 .ensures)
+returns-5 c =
+    let here = c .before .before .before .before in
+    let known = told here (c .before .before .form3 .given .1) in
+    variables-application (readable here) (node here) (sets here) (start here .pre .2) _ _ known _ (c .variables4 .ensures)
 
 returns-6 : tie.Need-returns-6
-returns-6 c = variables-suspension (c .before .before .before .before .before .before .before .pre .0 .readable) (c .before .before .before .before .before .before .before .args .node .0) _ (sym (c .before .before .before .before .before .form-of .ensures) ∙ c .before .before .before .form4 .given .1) _ (c .with .ensures ∙ rw (c .before .empty3 .ensures))
+returns-6 c =
+    let here = c .before .before .before .before .before in
+    let known = told here (c .before .before .before .form4 .given .1) in
+    variables-suspension (readable here) (node here) _ known _ (c .with .ensures ∙ rw (c .before .empty3 .ensures))
 
 pub variables-at-spec : {M : Type 1} → statement M
 variables-at-spec =

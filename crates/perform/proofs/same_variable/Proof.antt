@@ -1,12 +1,12 @@
 -- `same_variable` meets its contract: the disagreement set of both whole permutations is demanded.
-use Rattle.perform.proofs.Performing.{disagreement-raised}
 use Prim.Native.Nat.{_≤_}
 use borrow.Author.Needs.{needs}
+use Rattle.perform.proofs.Performing.{disagreement-raised}
 use Rattle.perform.proofs.same_variable.Statement.{statement}
 use Rattle.perform.proofs.same_variable.Tie as tie
 
 few : (c : tie.Start) → c .args .atoms ≤ 32
-few c = rw (c .pre .0 .number) (c .pre .0 .readable .few-atoms)
+few c = rw (c .pre .1) (c .pre .0 .readable .few-atoms)
 
 whole-requires : tie.Need-whole-requires
 whole-requires c κs = search needs
@@ -22,7 +22,12 @@ raise-variable-requires c κs = search needs
 
 returns : tie.Need-returns
 returns c =
-    disagreement-raised _ _ _ _ _ _ _ _ _ _ _ _ _ (few (c .before .before .before .before .before .before .before)) (c .before .before .before .before .before .whole .ensures) (c .before .before .before .before .whole2 .ensures) (c .before .before .before .disagreement .ensures) (c .raise-variable .ensures)
+    let at-set = c .before .before .before in
+    let at-right = at-set .before in
+    let at-left = at-right .before in
+    let at-start = at-left .before .before in
+    disagreement-raised _ _ _ _ _ _ _ (few at-start) (at-left .whole .ensures) (at-right .whole2 .ensures) (at-set .disagreement .ensures)
+    (c .raise-variable .ensures)
 
 pub same-variable-spec : {M : Type 1} → statement M
 same-variable-spec =

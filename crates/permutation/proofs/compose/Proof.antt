@@ -44,18 +44,20 @@ loop-less c = search needs
 
 loop-again : tie.Need-loop-again Inv-loop μ-loop
 loop-again c =
-    let n = c .before .before .before .before .args .n in
-    let p = c .before .before .before .before .args .t1 in
-    let q = c .before .before .before .before .args .t2 in
-    let i = c .before .before .before .loop .i in
+    let in-loop = c .before .before .before in
+    let at-start = in-loop .before in
+    let n = at-start .args .n in
+    let p = at-start .args .t1 in
+    let q = at-start .args .t2 in
+    let i = in-loop .loop .i in
     let l : length (p .images) ≡ 32 = search needs in
     let m : length (q .images) ≡ 32 = search needs in (
       search needs,
       ⊎-elim
-          (λ w. ap (λ (x : Permutation). x .images) (w .2) ∙ rw (c .before .before .before .loop .inv .1)
+          (λ w. ap (λ (x : Permutation). x .images) (w .2) ∙ rw (in-loop .loop .inv .1)
           (fill-more i (λ a. image (table n p) (image (table n q) a)) (getD (p .images) (getD (q .images) i 0) 0) (omega arith)
           (compose-inside n p q i (omega arith) (omega arith) (omega arith) (w .0 .taken))))
-          (λ w. ap (λ (x : Permutation). x .images) (w .1) ∙ rw (c .before .before .before .loop .inv .1)
+          (λ w. ap (λ (x : Permutation). x .images) (w .1) ∙ rw (in-loop .loop .inv .1)
           (fill-more i (λ a. image (table n p) (image (table n q) a)) (getD (q .images) i 0) (omega arith)
           (compose-outside n p q i (omega arith) (omega arith) (w .0 .left))))
           (c .if1 .came),
@@ -63,10 +65,16 @@ loop-again c =
 
 returns : tie.Need-returns Inv-loop μ-loop
 returns c =
-    let e : c .before .loop .i ≡ c .before .before .args .n = omega arith in
-    let l : length (c .before .before .args .t2 .images) ≡ 32 = search needs in
-    stored (c .before .loop .r) (after (table (c .before .before .args .n) (c .before .before .args .t1)) (table (c .before .before .args .n) (c .before .before .args .t2))) (c .before .loop .inv .1 ∙ rw e
-    (ap padded (sym (after-tabulate (table (c .before .before .args .n) (c .before .before .args .t1)) (table (c .before .before .args .n) (c .before .before .args .t2)) (c .before .before .args .n) (length-table (c .before .before .args .n) (c .before .before .args .t2) (omega arith))))))
+    let in-loop = c .before in
+    let at-start = in-loop .before in
+    let e : in-loop .loop .i ≡ at-start .args .n = omega arith in
+    let l : length (at-start .args .t2 .images) ≡ 32 = search needs in
+    stored (in-loop .loop .r)
+    (after (table (at-start .args .n) (at-start .args .t1)) (table (at-start .args .n) (at-start .args .t2)))
+    (in-loop .loop .inv .1 ∙ rw e
+    (ap padded (sym
+    (after-tabulate (table (at-start .args .n) (at-start .args .t1)) (table (at-start .args .n) (at-start .args .t2))
+    (at-start .args .n) (length-table (at-start .args .n) (at-start .args .t2) (omega arith))))))
 
 pub compose-spec : {M : Type 1} → statement M
 compose-spec =

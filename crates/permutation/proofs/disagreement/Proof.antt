@@ -42,25 +42,31 @@ loop-less c = search needs
 
 loop-again : tie.Need-loop-again Inv-loop μ-loop
 loop-again c =
-    let n = c .before .before .before .before .before .before .args .n in
-    let p = c .before .before .before .before .before .before .args .t1 in
-    let q = c .before .before .before .before .before .before .args .t2 in
-    let i = c .before .before .before .before .loop .i in
+    let in-loop = c .before .before .before .before in
+    let at-start = in-loop .before .before in
+    let n = at-start .args .n in
+    let p = at-start .args .t1 in
+    let q = at-start .args .t2 in
+    let i = in-loop .loop .i in
     let l : length (p .images) ≡ 32 = search needs in
     let m : length (q .images) ≡ 32 = search needs in (
       search needs,
       ⊎-elim
-          (λ w. ap (λ (x : AtomSet). x .0) (w .2) ∙ w .1 .ensures ∙ rw (c .before .before .before .before .loop .inv .1) (disagreement-more n p q i (omega arith) (omega arith) (omega arith) (w .0 .taken)))
-          (λ w. ap (λ (x : AtomSet). x .0) (w .1) ∙ c .before .before .before .before .loop .inv .1 ∙ disagreement-skip n p q i (omega arith) (omega arith) (omega arith) (w .0 .left))
+          (λ w. ap (λ (x : AtomSet). x .0) (w .2) ∙ w .1 .ensures
+          ∙ rw (in-loop .loop .inv .1) (disagreement-more n p q i (omega arith) (omega arith) (omega arith) (w .0 .taken)))
+          (λ w. ap (λ (x : AtomSet). x .0) (w .1) ∙ in-loop .loop .inv .1
+          ∙ disagreement-skip n p q i (omega arith) (omega arith) (omega arith) (w .0 .left))
           (c .if1 .came),
     )
 
 returns : tie.Need-returns Inv-loop μ-loop
 returns c =
-    let n = c .before .before .before .args .n in
-    let e : c .before .loop .i ≡ n = omega arith in
-    let l : length (c .before .before .before .args .t1 .images) ≡ 32 = search needs in
-    c .before .loop .inv .1 ∙ rw e (disagreement-all n (c .before .before .before .args .t1) (c .before .before .before .args .t2) (omega arith))
+    let in-loop = c .before in
+    let at-start = in-loop .before .before in
+    let n = at-start .args .n in
+    let e : in-loop .loop .i ≡ n = omega arith in
+    let l : length (at-start .args .t1 .images) ≡ 32 = search needs in
+    in-loop .loop .inv .1 ∙ rw e (disagreement-all n (at-start .args .t1) (at-start .args .t2) (omega arith))
 
 pub disagreement-spec : {M : Type 1} → statement M
 disagreement-spec =

@@ -35,8 +35,11 @@ loop-again c = (search needs, rw (c .before .loop .inv .1) (fill-more (c .before
 
 returns : tie.Need-returns Inv-loop μ-loop
 returns c =
-    let e : c .before .loop .i ≡ c .before .before .args .n = omega arith in
-    stored (c .before .loop .r) (identity (c .before .before .args .n)) (c .before .loop .inv .1 ∙ rw e (ap padded (sym (identity-tabulate (c .before .before .args .n)))))
+    let in-loop = c .before in
+    let at-start = in-loop .before in
+    let e : in-loop .loop .i ≡ at-start .args .n = omega arith in
+    stored (in-loop .loop .r) (identity (at-start .args .n))
+    (in-loop .loop .inv .1 ∙ rw e (ap padded (sym (identity-tabulate (at-start .args .n)))))
 
 pub identity-spec : {M : Type 1} → statement M
 identity-spec =

@@ -15,11 +15,15 @@ element-copy-out-t9 c = search needs
 
 returns : tie.Need-returns
 returns c =
-    let l : length (c .before .before .before .args .t1 .images) ≡ 32 = search needs in
-    sym (image-table (c .before .before .before .args .n) (c .before .before .before .args .t1) (c .before .before .before .args .a .0) (omega arith) (omega arith))
+    let at-start = c .before .before .before in
+    let l : length (at-start .args .t1 .images) ≡ 32 = search needs in
+    sym (image-table (at-start .args .n) (at-start .args .t1) (at-start .args .a .0) (omega arith)
+    (omega arith))
 
 returns-2 : tie.Need-returns-2
-returns-2 c = sym (image-table-out (c .before .before .args .n) (c .before .before .args .t1) (c .before .before .args .a .0) (omega arith))
+returns-2 c =
+    let at-start = c .before .before in
+    sym (image-table-out (at-start .args .n) (at-start .args .t1) (at-start .args .a .0) (omega arith))
 
 pub image-spec : {M : Type 1} → statement M
 image-spec = tie.close (tie.spec cast-i element-copy-out-t9 returns returns-2)

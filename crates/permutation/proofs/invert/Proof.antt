@@ -41,13 +41,15 @@ loop-less c = search needs
 
 loop-again : tie.Need-loop-again Inv-loop μ-loop
 loop-again c =
-    let n = c .before .before .before .before .args .n in
-    let p = c .before .before .before .before .args .t1 in
-    let i = c .before .before .before .loop .i in
+    let in-loop = c .before .before .before in
+    let at-start = in-loop .before in
+    let n = at-start .args .n in
+    let p = at-start .args .t1 in
+    let i = in-loop .loop .i in
     let l : length (p .images) ≡ 32 = search needs in
     let e : image (table n p) (i - 1) ≡ getD (p .images) (i - 1) 0 = image-table n p (i - 1) (omega arith) (omega arith) in (
       search needs,
-      rw (c .before .before .before .loop .inv .1, ← e)
+      rw (in-loop .loop .inv .1, ← e)
           (invert-store n (table n p) (length-table n p (omega arith)) i (omega arith) (omega arith) (omega arith)),
     )
 
@@ -56,20 +58,27 @@ loop-less-2 c = search needs
 
 loop-again-2 : tie.Need-loop-again-2 Inv-loop μ-loop
 loop-again-2 c =
-    let n = c .before .before .before .before .args .n in
-    let p = c .before .before .before .before .args .t1 in
-    let i = c .before .before .before .loop .i in
+    let in-loop = c .before .before .before in
+    let at-start = in-loop .before in
+    let n = at-start .args .n in
+    let p = at-start .args .t1 in
+    let i = in-loop .loop .i in
     let l : length (p .images) ≡ 32 = search needs in
     let e : image (table n p) (i - 1) ≡ getD (p .images) (i - 1) 0 = image-table n p (i - 1) (omega arith) (omega arith) in (
       search needs,
-      c .before .before .before .loop .inv .1 ∙ invert-skip n (table n p) (length-table n p (omega arith)) i (omega arith) (omega arith) (omega arith),
+      in-loop .loop .inv .1 ∙ invert-skip n (table n p) (length-table n p (omega arith)) i (omega arith) (omega arith) (omega arith),
     )
 
 returns : tie.Need-returns Inv-loop μ-loop
 returns c =
-    let e : c .before .loop .i ≡ 0 = omega arith in
-    let l : length (c .before .before .args .t1 .images) ≡ 32 = search needs in
-    stored (c .before .loop .r) (inverted (table (c .before .before .args .n) (c .before .before .args .t1))) (c .before .loop .inv .1 ∙ rw e (invert-all (c .before .before .args .n) (table (c .before .before .args .n) (c .before .before .args .t1)) (length-table (c .before .before .args .n) (c .before .before .args .t1) (omega arith))))
+    let in-loop = c .before in
+    let at-start = in-loop .before in
+    let e : in-loop .loop .i ≡ 0 = omega arith in
+    let l : length (at-start .args .t1 .images) ≡ 32 = search needs in
+    stored (in-loop .loop .r) (inverted (table (at-start .args .n) (at-start .args .t1)))
+    (in-loop .loop .inv .1
+    ∙ rw e (invert-all (at-start .args .n) (table (at-start .args .n) (at-start .args .t1))
+    (length-table (at-start .args .n) (at-start .args .t1) (omega arith))))
 
 pub invert-spec : {M : Type 1} → statement M
 invert-spec =

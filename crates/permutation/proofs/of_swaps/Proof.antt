@@ -21,7 +21,9 @@ identity-requires c κs = c .before .pre .0
 
 loop-holds : tie.Need-loop-holds Inv-loop μ-loop
 unfolding ofTable
-loop-holds c = (search needs, rw (c .identity .ensures) (passed-none (c .before .before .args .n) (c .before .before .args .s .now) (c .before .before .pre .1)))
+loop-holds c =
+    let at-start = c .before .before in
+    (search needs, rw (c .identity .ensures) (passed-none (at-start .args .n) (at-start .args .s .now) (at-start .pre .1)))
 
 add-loop : tie.Need-add-loop Inv-loop μ-loop
 add-loop c = search needs
@@ -30,7 +32,14 @@ shared-slice-read-a : tie.Need-shared-slice-read-a Inv-loop μ-loop
 shared-slice-read-a c = search needs
 
 cast-a : tie.Need-cast-a Inv-loop μ-loop
-cast-a c = omega (arith, passed-left (c .before .before .before .before .before .args .n) (c .before .before .before .before .before .args .s .now) (c .before .before .loop .i) (c .before .before .loop .r .images) (c .before .before .loop .inv .1) (search needs))
+cast-a c =
+    let in-loop = c .before .before in
+    let at-start = in-loop .before .before .before in
+    omega (
+      arith,
+      passed-left (at-start .args .n) (at-start .args .s .now)
+          (in-loop .loop .i) (in-loop .loop .r .images) (in-loop .loop .inv .1) (search needs),
+    )
 
 add-b : tie.Need-add-b Inv-loop μ-loop
 add-b c = search needs
@@ -39,19 +48,57 @@ shared-slice-read-b : tie.Need-shared-slice-read-b Inv-loop μ-loop
 shared-slice-read-b c = search needs
 
 cast-b : tie.Need-cast-b Inv-loop μ-loop
-cast-b c = omega (arith, passed-right (c .before .before .before .before .before .before .args .n) (c .before .before .before .before .before .before .args .s .now) (c .before .before .before .loop .i) (c .before .before .before .loop .r .images) (c .before .before .before .loop .inv .1) (search needs))
+cast-b c =
+    let in-loop = c .before .before .before in
+    let at-start = in-loop .before .before .before in
+    omega (
+      arith,
+      passed-right (at-start .args .n) (at-start .args .s .now)
+          (in-loop .loop .i) (in-loop .loop .r .images) (in-loop .loop .inv .1) (search needs),
+    )
 
 element-copy-out-x : tie.Need-element-copy-out-x Inv-loop μ-loop
-element-copy-out-x c = omega (arith, passed-left (c .before .before .before .before .before .before .args .n) (c .before .before .before .before .before .before .args .s .now) (c .before .before .before .loop .i) (c .before .before .before .loop .r .images) (c .before .before .before .loop .inv .1) (search needs))
+element-copy-out-x c =
+    let in-loop = c .before .before .before in
+    let at-start = in-loop .before .before .before in
+    omega (
+      arith,
+      passed-left (at-start .args .n) (at-start .args .s .now)
+          (in-loop .loop .i) (in-loop .loop .r .images) (in-loop .loop .inv .1) (search needs),
+    )
 
 element-copy-out-y : tie.Need-element-copy-out-y Inv-loop μ-loop
-element-copy-out-y c = omega (arith, passed-right (c .before .before .before .before .before .before .before .args .n) (c .before .before .before .before .before .before .before .args .s .now) (c .before .before .before .before .loop .i) (c .before .before .before .before .loop .r .images) (c .before .before .before .before .loop .inv .1) (search needs))
+element-copy-out-y c =
+    let in-loop = c .before .before .before .before in
+    let at-start = in-loop .before .before .before in
+    omega (
+      arith,
+      passed-right (at-start .args .n)
+          (at-start .args .s .now) (in-loop .loop .i)
+          (in-loop .loop .r .images) (in-loop .loop .inv .1) (search needs),
+    )
 
 element-write-r : tie.Need-element-write-r Inv-loop μ-loop
-element-write-r c = omega (arith, passed-left (c .before .before .before .before .before .before .before .before .args .n) (c .before .before .before .before .before .before .before .before .args .s .now) (c .before .before .before .before .before .loop .i) (c .before .before .before .before .before .loop .r .images) (c .before .before .before .before .before .loop .inv .1) (search needs))
+element-write-r c =
+    let in-loop = c .before .before .before .before .before in
+    let at-start = in-loop .before .before .before in
+    omega (
+      arith,
+      passed-left (at-start .args .n)
+          (at-start .args .s .now) (in-loop .loop .i)
+          (in-loop .loop .r .images) (in-loop .loop .inv .1) (search needs),
+    )
 
 element-write-r-2 : tie.Need-element-write-r-2 Inv-loop μ-loop
-element-write-r-2 c = omega (arith, passed-right (c .before .before .before .before .before .before .before .before .args .n) (c .before .before .before .before .before .before .before .before .args .s .now) (c .before .before .before .before .before .loop .i) (c .before .before .before .before .before .loop .r .images) (c .before .before .before .before .before .loop .inv .1) (search needs))
+element-write-r-2 c =
+    let in-loop = c .before .before .before .before .before in
+    let at-start = in-loop .before .before .before in
+    omega (
+      arith,
+      passed-right (at-start .args .n)
+          (at-start .args .s .now) (in-loop .loop .i)
+          (in-loop .loop .r .images) (in-loop .loop .inv .1) (search needs),
+    )
 
 add-i : tie.Need-add-i Inv-loop μ-loop
 add-i c = search needs
@@ -60,10 +107,22 @@ loop-less : tie.Need-loop-less Inv-loop μ-loop
 loop-less c = search needs
 
 loop-again : tie.Need-loop-again Inv-loop μ-loop
-loop-again c = (search needs, passed-more (c .before .before .before .before .before .before .before .before .args .n) (c .before .before .before .before .before .before .before .before .args .s .now) (c .before .before .before .before .before .loop .i) (c .before .before .before .before .before .loop .r .images) (c .before .before .before .before .before .loop .inv .1) (search needs))
+loop-again c =
+    let in-loop = c .before .before .before .before .before in
+    let at-start = in-loop .before .before .before in (
+      search needs,
+      passed-more (at-start .args .n)
+          (at-start .args .s .now) (in-loop .loop .i)
+          (in-loop .loop .r .images) (in-loop .loop .inv .1) (search needs),
+    )
 
 returns : tie.Need-returns Inv-loop μ-loop
-returns c = stored (c .before .loop .r) (ofSwaps (c .before .before .before .before .args .n) (swapsIn (c .before .before .before .before .args .s .now))) (passed-all (c .before .before .before .before .args .n) (c .before .before .before .before .args .s .now) (c .before .loop .i) (c .before .loop .r .images) (c .before .loop .inv .1) (omega arith))
+returns c =
+    let in-loop = c .before in
+    let at-start = in-loop .before .before .before in
+    stored (in-loop .loop .r) (ofSwaps (at-start .args .n) (swapsIn (at-start .args .s .now)))
+    (passed-all (at-start .args .n) (at-start .args .s .now) (in-loop .loop .i)
+    (in-loop .loop .r .images) (in-loop .loop .inv .1) (omega arith))
 
 pub of-swaps-spec : {M : Type 1} → statement M
 of-swaps-spec =

@@ -37,22 +37,33 @@ loop-less c = search needs
 
 loop-again : tie.Need-loop-again Inv-loop μ-loop
 loop-again c =
-    let n = c .before .before .before .before .args .n in
-    let p = c .before .before .before .before .args .t3 in
-    let i = c .before .before .before .loop .i in
+    let in-loop = c .before .before .before in
+    let at-start = in-loop .before in
+    let n = at-start .args .n in
+    let p = at-start .args .t3 in
+    let i = in-loop .loop .i in
     let l : length (p .images) ≡ 32 = search needs in (
       search needs,
-      rw (c .before .before .before .loop .inv .1)
-          (fill-more i (λ d. swapped (c .before .before .before .before .args .a .0) (c .before .before .before .before .args .b .0) (image (table n p) d)) (c .swap-atom .result .0) (omega arith)
-          (c .swap-atom .ensures ∙ ap (swapped (c .before .before .before .before .args .a .0) (c .before .before .before .before .args .b .0)) (sym (image-table n p i (omega arith) (omega arith))))),
+      rw (in-loop .loop .inv .1)
+          (fill-more i (λ d. swapped (at-start .args .a .0) (at-start .args .b .0) (image (table n p) d))
+          (c .swap-atom .result .0) (omega arith)
+          (c .swap-atom .ensures
+          ∙ ap (swapped (at-start .args .a .0) (at-start .args .b .0))
+          (sym (image-table n p i (omega arith) (omega arith))))),
     )
 
 returns : tie.Need-returns Inv-loop μ-loop
 returns c =
-    let e : c .before .loop .i ≡ c .before .before .args .n = omega arith in
-    let l : length (c .before .before .args .t3 .images) ≡ 32 = search needs in
-    stored (c .before .loop .r) (swappedAfter (c .before .before .args .a .0) (c .before .before .args .b .0) (table (c .before .before .args .n) (c .before .before .args .t3))) (c .before .loop .inv .1 ∙ rw e
-    (ap padded (sym (swappedAfter-tabulate (c .before .before .args .a .0) (c .before .before .args .b .0) (table (c .before .before .args .n) (c .before .before .args .t3)) (c .before .before .args .n) (length-table (c .before .before .args .n) (c .before .before .args .t3) (omega arith))))))
+    let in-loop = c .before in
+    let at-start = in-loop .before in
+    let e : in-loop .loop .i ≡ at-start .args .n = omega arith in
+    let l : length (at-start .args .t3 .images) ≡ 32 = search needs in
+    stored (in-loop .loop .r)
+    (swappedAfter (at-start .args .a .0) (at-start .args .b .0) (table (at-start .args .n) (at-start .args .t3)))
+    (in-loop .loop .inv .1 ∙ rw e
+    (ap padded (sym
+    (swappedAfter-tabulate (at-start .args .a .0) (at-start .args .b .0) (table (at-start .args .n) (at-start .args .t3))
+    (at-start .args .n) (length-table (at-start .args .n) (at-start .args .t3) (omega arith))))))
 
 pub swap-after-spec : {M : Type 1} → statement M
 swap-after-spec =

@@ -62,7 +62,10 @@ put-decimal-returns : (t : ℕ) → put-decimal-lts.Need-returns (
   put-decimal-below t,
   put-decimal.Post,
 ) (put-decimal-at t) put-decimal.Post
-put-decimal-returns t c = rw (decimal-small _ (c .before .before .before .before .if1 .taken)) (c .before .before .put-byte .ensures)
+put-decimal-returns t c =
+    let at-put-byte = c .before .before in
+    let at-if1 = at-put-byte .before .before in
+    rw (decimal-small _ (at-if1 .if1 .taken)) (at-put-byte .put-byte .ensures)
 
 put-decimal-put-decimal-requires : (t : ℕ) → put-decimal-lts.Need-put-decimal-requires (
   put-byte-reads.Asked,
@@ -102,7 +105,10 @@ put-decimal-same-length-2 : (t : ℕ) → put-decimal-lts.Need-same-length-2 (
   put-decimal-below t,
   put-decimal.Post,
 ) (put-decimal-at t) put-decimal.Post
-put-decimal-same-length-2 t c = placed-length (c .before .before .before .before .before .before .put-decimal .ensures then c .before .before .put-byte2 .ensures)
+put-decimal-same-length-2 t c =
+    let at-put-byte2 = c .before .before in
+    let at-put-decimal = at-put-byte2 .before .before .before .before in
+    placed-length (at-put-decimal .put-decimal .ensures then at-put-byte2 .put-byte2 .ensures)
 
 put-decimal-returns-2 : (t : ℕ) → put-decimal-lts.Need-returns-2 (
   put-byte-reads.Asked,
@@ -110,7 +116,11 @@ put-decimal-returns-2 : (t : ℕ) → put-decimal-lts.Need-returns-2 (
   put-decimal-below t,
   put-decimal.Post,
 ) (put-decimal-at t) put-decimal.Post
-put-decimal-returns-2 t c = rw (decimal-more _ (c .before .before .before .before .before .before .before .before .if1 .left)) (c .before .before .before .before .before .before .put-decimal .ensures then c .before .before .put-byte2 .ensures)
+put-decimal-returns-2 t c =
+    let at-put-byte2 = c .before .before in
+    let at-put-decimal = at-put-byte2 .before .before .before .before in
+    let at-if1 = at-put-decimal .before .before in
+    rw (decimal-more _ (at-if1 .if1 .left)) (at-put-decimal .put-decimal .ensures then at-put-byte2 .put-byte2 .ensures)
 
 pub +put-decimal-spec : {M : Type 1} → statement M
 +put-decimal-spec = close μ-put-decimal λ t. put-decimal-lts.spec (

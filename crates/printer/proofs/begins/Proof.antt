@@ -27,7 +27,11 @@ shared-slice-read-if2-2 : tie.Need-shared-slice-read-if2-2 Inv-loop μ-loop
 shared-slice-read-if2-2 c = search needs
 
 returns-2 : tie.Need-returns-2 Inv-loop μ-loop
-returns-2 c = sym (c .before .before .before .before .before .loop .inv .1 ∙ begins-other _ _ _ (c .before .before .before .before .loop-test .taken) (c .before .before .before .if1 .left) (c .if2 .taken))
+returns-2 c =
+    let at-if1 = c .before .before .before in
+    let at-loop-test = at-if1 .before in
+    let in-loop = at-loop-test .before in
+    sym (in-loop .loop .inv .1 ∙ begins-other _ _ _ (at-loop-test .loop-test .taken) (at-if1 .if1 .left) (c .if2 .taken))
 
 add-i : tie.Need-add-i Inv-loop μ-loop
 add-i c = search needs
@@ -36,7 +40,11 @@ loop-less : tie.Need-loop-less Inv-loop μ-loop
 loop-less c = search needs
 
 loop-again : tie.Need-loop-again Inv-loop μ-loop
-loop-again c = (search needs, c .before .before .before .before .before .loop .inv .1 ∙ begins-on _ _ _ (c .before .before .before .before .loop-test .taken) (c .before .before .before .if1 .left) (c .if2 .left))
+loop-again c =
+    let at-if1 = c .before .before .before in
+    let at-loop-test = at-if1 .before in
+    let in-loop = at-loop-test .before in
+    (search needs, in-loop .loop .inv .1 ∙ begins-on _ _ _ (at-loop-test .loop-test .taken) (at-if1 .if1 .left) (c .if2 .left))
 
 returns-3 : tie.Need-returns-3 Inv-loop μ-loop
 returns-3 c = sym (c .before .loop .inv .1 ∙ begins-end _ _ _ (c .loop-test .left))

@@ -31,7 +31,12 @@ same-length c = search needs
 
 returns : tie.Need-returns
 unfolding cutLine
-returns c = c .before .before .before .before .before .before .before .before .before .before .before .before .before .before .before .before .put .ensures then c .before .before .before .before .before .before .before .before .before .before .before .before .put-decimal .ensures then c .before .before .before .before .before .before .before .put2 .ensures then c .before .before .put3 .ensures
+returns c =
+    let at-put3 = c .before .before in
+    let at-put2 = at-put3 .before .before .before .before .before in
+    let at-put-decimal = at-put2 .before .before .before .before .before in
+    let at-put = at-put-decimal .before .before .before .before in
+    at-put .put .ensures then at-put-decimal .put-decimal .ensures then at-put2 .put2 .ensures then at-put3 .put3 .ensures
 
 pub cut-line-spec : {M : Type 1} → statement M
 cut-line-spec =

@@ -13,7 +13,10 @@ same-length c = search needs
 
 returns : tie.Need-returns
 unfolding judgeLine
-returns c = rw (ne-eqb _ 0 (c .before .before .before .before .if1 .taken)) (c .before .before .put-refused .ensures)
+returns c =
+    let at-put-refused = c .before .before in
+    let at-if1 = at-put-refused .before .before in
+    rw (ne-eqb _ 0 (at-if1 .if1 .taken)) (at-put-refused .put-refused .ensures)
 
 slice-aggregate-put : tie.Need-slice-aggregate-put
 slice-aggregate-put c = search needs
@@ -26,7 +29,10 @@ same-length-2 c = search needs
 
 returns-2 : tie.Need-returns-2
 unfolding judgeLine
-returns-2 c = rw (eq-eqb _ 0 (c .before .before .before .before .before .if1 .left)) (c .before .before .put .ensures)
+returns-2 c =
+    let at-put = c .before .before in
+    let at-if1 = at-put .before .before .before in
+    rw (eq-eqb _ 0 (at-if1 .if1 .left)) (at-put .put .ensures)
 
 pub judge-line-spec : {M : Type 1} → statement M
 judge-line-spec =

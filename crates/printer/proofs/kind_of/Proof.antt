@@ -23,7 +23,11 @@ begins-requires-2 c κs = search needs
 
 returns-2 : tie.Need-returns-2
 unfolding kindOf
-returns-2 c = rw (sym (c .before .before .before .before .begins .ensures) ∙ c .before .before .before .if1 .left, sym (c .before .begins2 .ensures) ∙ c .if2 .taken)
+returns-2 c =
+    let at-begins2 = c .before in
+    let at-if1 = at-begins2 .before .before in
+    let at-begins = at-if1 .before in
+    rw (sym (at-begins .begins .ensures) ∙ at-if1 .if1 .left, sym (at-begins2 .begins2 .ensures) ∙ c .if2 .taken)
 
 slice-aggregate-begins-3 : tie.Need-slice-aggregate-begins-3
 slice-aggregate-begins-3 c = search needs
@@ -33,7 +37,18 @@ begins-requires-3 c κs = search needs
 
 returns-3 : tie.Need-returns-3
 unfolding kindOf
-returns-3 c = rw (sym (c .before .before .before .before .before .before .before .begins .ensures) ∙ c .before .before .before .before .before .before .if1 .left, sym (c .before .before .before .before .begins2 .ensures) ∙ c .before .before .before .if2 .left, sym (c .before .begins3 .ensures) ∙ c .if3 .taken)
+returns-3 c =
+    let at-begins3 = c .before in
+    let at-if2 = at-begins3 .before .before in
+    let at-begins2 = at-if2 .before in
+    let at-if1 = at-begins2 .before .before in
+    let at-begins = at-if1 .before in
+    rw (
+      sym (at-begins .begins .ensures) ∙ at-if1 .if1 .left,
+      sym (at-begins2 .begins2 .ensures) ∙ at-if2 .if2 .left,
+      sym (at-begins3 .begins3 .ensures)
+          ∙ c .if3 .taken,
+    )
 
 slice-aggregate-begins-4 : tie.Need-slice-aggregate-begins-4
 slice-aggregate-begins-4 c = search needs
@@ -43,7 +58,21 @@ begins-requires-4 c κs = search needs
 
 returns-4 : tie.Need-returns-4
 unfolding kindOf
-returns-4 c = rw (sym (c .before .before .before .before .before .before .before .before .before .before .begins .ensures) ∙ c .before .before .before .before .before .before .before .before .before .if1 .left, sym (c .before .before .before .before .before .before .before .begins2 .ensures) ∙ c .before .before .before .before .before .before .if2 .left, sym (c .before .before .before .before .begins3 .ensures) ∙ c .before .before .before .if3 .left, sym (c .before .begins4 .ensures) ∙ c .if4 .taken)
+returns-4 c =
+    let at-begins4 = c .before in
+    let at-if3 = at-begins4 .before .before in
+    let at-begins3 = at-if3 .before in
+    let at-if2 = at-begins3 .before .before in
+    let at-begins2 = at-if2 .before in
+    let at-if1 = at-begins2 .before .before in
+    let at-begins = at-if1 .before in
+    rw (
+      sym (at-begins .begins .ensures) ∙ at-if1 .if1 .left,
+      sym (at-begins2 .begins2 .ensures) ∙ at-if2 .if2 .left,
+      sym (at-begins3 .begins3 .ensures)
+          ∙ at-if3 .if3 .left,
+      sym (at-begins4 .begins4 .ensures) ∙ c .if4 .taken,
+    )
 
 slice-aggregate-begins-5 : tie.Need-slice-aggregate-begins-5
 slice-aggregate-begins-5 c = search needs
@@ -53,11 +82,45 @@ begins-requires-5 c κs = search needs
 
 returns-5 : tie.Need-returns-5
 unfolding kindOf
-returns-5 c = rw (sym (c .before .before .before .before .before .before .before .before .before .before .before .before .before .begins .ensures) ∙ c .before .before .before .before .before .before .before .before .before .before .before .before .if1 .left, sym (c .before .before .before .before .before .before .before .before .before .before .begins2 .ensures) ∙ c .before .before .before .before .before .before .before .before .before .if2 .left, sym (c .before .before .before .before .before .before .before .begins3 .ensures) ∙ c .before .before .before .before .before .before .if3 .left, sym (c .before .before .before .before .begins4 .ensures) ∙ c .before .before .before .if4 .left, sym (c .before .begins5 .ensures) ∙ c .if5 .taken)
+returns-5 c =
+    let at-begins5 = c .before in
+    let at-if4 = at-begins5 .before .before in
+    let at-begins4 = at-if4 .before in
+    let at-if3 = at-begins4 .before .before in
+    let at-begins3 = at-if3 .before in
+    let at-if2 = at-begins3 .before .before in
+    let at-begins2 = at-if2 .before in
+    let at-if1 = at-begins2 .before .before in
+    let at-begins = at-if1 .before in
+    rw (
+      sym (at-begins .begins .ensures) ∙ at-if1 .if1 .left,
+      sym (at-begins2 .begins2 .ensures) ∙ at-if2 .if2 .left,
+      sym (at-begins3 .begins3 .ensures)
+          ∙ at-if3 .if3 .left,
+      sym (at-begins4 .begins4 .ensures) ∙ at-if4 .if4 .left,
+      sym (at-begins5 .begins5 .ensures) ∙ c .if5 .taken,
+    )
 
 returns-6 : tie.Need-returns-6
 unfolding kindOf
-returns-6 c = rw (sym (c .before .before .before .before .before .before .before .before .before .before .before .before .before .begins .ensures) ∙ c .before .before .before .before .before .before .before .before .before .before .before .before .if1 .left, sym (c .before .before .before .before .before .before .before .before .before .before .begins2 .ensures) ∙ c .before .before .before .before .before .before .before .before .before .if2 .left, sym (c .before .before .before .before .before .before .before .begins3 .ensures) ∙ c .before .before .before .before .before .before .if3 .left, sym (c .before .before .before .before .begins4 .ensures) ∙ c .before .before .before .if4 .left, sym (c .before .begins5 .ensures) ∙ c .if5 .left)
+returns-6 c =
+    let at-begins5 = c .before in
+    let at-if4 = at-begins5 .before .before in
+    let at-begins4 = at-if4 .before in
+    let at-if3 = at-begins4 .before .before in
+    let at-begins3 = at-if3 .before in
+    let at-if2 = at-begins3 .before .before in
+    let at-begins2 = at-if2 .before in
+    let at-if1 = at-begins2 .before .before in
+    let at-begins = at-if1 .before in
+    rw (
+      sym (at-begins .begins .ensures) ∙ at-if1 .if1 .left,
+      sym (at-begins2 .begins2 .ensures) ∙ at-if2 .if2 .left,
+      sym (at-begins3 .begins3 .ensures)
+          ∙ at-if3 .if3 .left,
+      sym (at-begins4 .begins4 .ensures) ∙ at-if4 .if4 .left,
+      sym (at-begins5 .begins5 .ensures) ∙ c .if5 .left,
+    )
 
 pub kind-of-spec : {M : Type 1} → statement M
 kind-of-spec =

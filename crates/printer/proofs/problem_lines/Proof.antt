@@ -22,7 +22,11 @@ same-length c = search needs
 
 returns : tie.Need-returns
 unfolding problemLines
-returns c = c .before .before .before .before .before .before .before .before .before .before .before .solver-lines .ensures then c .before .before .before .before .before .before .before .judge-line .ensures then c .before .before .put .ensures
+returns c =
+    let at-put = c .before .before in
+    let at-judge-line = at-put .before .before .before .before .before in
+    let at-solver-lines = at-judge-line .before .before .before .before in
+    at-solver-lines .solver-lines .ensures then at-judge-line .judge-line .ensures then at-put .put .ensures
 
 pub problem-lines-spec : {M : Type 1} → statement M
 problem-lines-spec =

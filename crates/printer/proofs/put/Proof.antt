@@ -36,15 +36,25 @@ loop-less : tie.Need-loop-less Inv-loop μ-loop
 loop-less c = search needs
 
 loop-again : tie.Need-loop-again Inv-loop μ-loop
-loop-again c = let h : c .before .before .before .before .before .before .loop .i < length (c .before .before .before .before .before .before .before .before .before .before .args .s .now) = omega arith in
-    (search needs, rw (add-one (c .before .before .before .before .before .before .loop .i), take-suc (c .before .before .before .before .before .before .before .before .before .before .args .s .now) (c .before .before .before .before .before .before .loop .i) 0 h) (c .before .before .before .before .before .before .loop .inv .1 then c .before .before .put-byte .ensures))
+loop-again c =
+    let at-put-byte = c .before .before in
+    let in-loop = at-put-byte .before .before .before .before in
+    let at-start = in-loop .before .before .before .before in
+    let h : in-loop .loop .i < length (at-start .args .s .now) = omega arith in (
+      search needs,
+      rw (add-one (in-loop .loop .i), take-suc (at-start .args .s .now) (in-loop .loop .i) 0 h)
+          (in-loop .loop .inv .1 then at-put-byte .put-byte .ensures),
+    )
 
 same-length : tie.Need-same-length Inv-loop μ-loop
 same-length c = placed-length (c .before .loop .inv .1)
 
 returns-2 : tie.Need-returns-2 Inv-loop μ-loop
-returns-2 c = let e : c .before .loop .i ≡ length (c .before .before .before .before .before .args .s .now) = omega arith in
-    rw (take-length (c .before .before .before .before .before .args .s .now)) at (rw e at (c .before .loop .inv .1))
+returns-2 c =
+    let in-loop = c .before in
+    let at-start = in-loop .before .before .before .before in
+    let e : in-loop .loop .i ≡ length (at-start .args .s .now) = omega arith in
+    rw (take-length (at-start .args .s .now)) at (rw e at (in-loop .loop .inv .1))
 
 pub put-spec : {M : Type 1} → statement M
 put-spec =

@@ -25,7 +25,11 @@ same-length c = search needs
 
 returns : tie.Need-returns
 unfolding acceptedLine
-returns c = c .before .before .before .before .before .before .before .before .before .before .before .put .ensures then c .before .before .before .before .before .before .before .put-decimal .ensures then c .before .before .put2 .ensures
+returns c =
+    let at-put2 = c .before .before in
+    let at-put-decimal = at-put2 .before .before .before .before .before in
+    let at-put = at-put-decimal .before .before .before .before in
+    at-put .put .ensures then at-put-decimal .put-decimal .ensures then at-put2 .put2 .ensures
 
 pub put-accepted-spec : {M : Type 1} → statement M
 put-accepted-spec =

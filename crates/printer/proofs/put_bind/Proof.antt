@@ -37,7 +37,14 @@ same-length c = search needs
 
 returns : tie.Need-returns
 unfolding bindLine
-returns c = c .before .before .before .before .before .before .before .before .before .before .before .before .before .before .before .before .before .before .before .before .before .put .ensures then c .before .before .before .before .before .before .before .before .before .before .before .before .before .before .before .before .put-decimal .ensures then c .before .before .before .before .before .before .before .before .before .before .before .put-spaced .ensures then c .before .before .before .before .before .before .before .put-images .ensures then c .before .before .put2 .ensures
+returns c =
+    let at-put2 = c .before .before in
+    let at-put-images = at-put2 .before .before .before .before .before in
+    let at-put-spaced = at-put-images .before .before .before .before in
+    let at-put-decimal = at-put-spaced .before .before .before .before .before in
+    let at-put = at-put-decimal .before .before .before .before .before in
+    at-put .put .ensures then at-put-decimal .put-decimal .ensures then at-put-spaced .put-spaced .ensures then at-put-images .put-images .ensures
+    then at-put2 .put2 .ensures
 
 pub put-bind-spec : {M : Type 1} → statement M
 put-bind-spec =

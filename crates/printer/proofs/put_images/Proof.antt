@@ -41,15 +41,22 @@ loop-less : tie.Need-loop-less Inv-loop μ-loop
 loop-less c = search needs
 
 loop-again : tie.Need-loop-again Inv-loop μ-loop
-loop-again c = let h : c .before .before .before .before .before .before .loop .i < length (c .before .before .before .before .before .before .before .before .before .before .args .s .now) = omega arith in
-    (search needs, rw (images-more (c .before .before .before .before .before .before .before .before .before .before .args .s .now) (c .before .before .before .before .before .before .loop .i) h) (c .before .before .before .before .before .before .loop .inv .1 then c .before .before .put-spaced .ensures))
+loop-again c =
+    let at-put-spaced = c .before .before in
+    let in-loop = at-put-spaced .before .before .before .before in
+    let at-start = in-loop .before .before .before .before in
+    let h : in-loop .loop .i < length (at-start .args .s .now) = omega arith in
+    (search needs, rw (images-more (at-start .args .s .now) (in-loop .loop .i) h) (in-loop .loop .inv .1 then at-put-spaced .put-spaced .ensures))
 
 same-length : tie.Need-same-length Inv-loop μ-loop
 same-length c = placed-length (c .before .loop .inv .1)
 
 returns-2 : tie.Need-returns-2 Inv-loop μ-loop
-returns-2 c = let e : c .before .loop .i ≡ length (c .before .before .before .before .before .args .s .now) = omega arith in
-    rw (take-length (c .before .before .before .before .before .args .s .now)) at (rw e at (c .before .loop .inv .1))
+returns-2 c =
+    let in-loop = c .before in
+    let at-start = in-loop .before .before .before .before in
+    let e : in-loop .loop .i ≡ length (at-start .args .s .now) = omega arith in
+    rw (take-length (at-start .args .s .now)) at (rw e at (in-loop .loop .inv .1))
 
 pub put-images-spec : {M : Type 1} → statement M
 put-images-spec =

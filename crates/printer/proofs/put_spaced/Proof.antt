@@ -19,7 +19,10 @@ same-length c = search needs
 
 returns : tie.Need-returns
 unfolding spaced
-returns c = c .before .before .before .before .before .before .put .ensures then c .before .before .put-decimal .ensures
+returns c =
+    let at-put-decimal = c .before .before in
+    let at-put = at-put-decimal .before .before .before .before in
+    at-put .put .ensures then at-put-decimal .put-decimal .ensures
 
 pub put-spaced-spec : {M : Type 1} → statement M
 put-spaced-spec =

@@ -16,10 +16,15 @@ same-length c = search needs
 
 returns : tie.Need-returns
 unfolding solverLines
-returns c = rw (ne-eqb _ 0 (c .before .before .before .before .if1 .taken)) (c .before .before .put-refused .ensures)
+returns c =
+    let at-put-refused = c .before .before in
+    let at-if1 = at-put-refused .before .before in
+    rw (ne-eqb _ 0 (at-if1 .if1 .taken)) (at-put-refused .put-refused .ensures)
 
 slice-aggregate-put-answer : tie.Need-slice-aggregate-put-answer
-slice-aggregate-put-answer c = sym (length-take-le (c .before .before .before .before .before .before .args .place) (c .before .before .before .before .before .before .args .output .now) (omega arith))
+slice-aggregate-put-answer c =
+    let at-start = c .before .before .before .before .before .before in
+    sym (length-take-le (at-start .args .place) (at-start .args .output .now) (omega arith))
 
 put-answer-requires : tie.Need-put-answer-requires
 put-answer-requires c κs = search needs
@@ -29,7 +34,10 @@ same-length-2 c = search needs
 
 returns-2 : tie.Need-returns-2
 unfolding solverLines
-returns-2 c = rw (eq-eqb _ 0 (c .before .before .before .before .before .before .if1 .left)) (c .before .before .put-answer .ensures)
+returns-2 c =
+    let at-put-answer = c .before .before in
+    let at-if1 = at-put-answer .before .before .before .before in
+    rw (eq-eqb _ 0 (at-if1 .if1 .left)) (at-put-answer .put-answer .ensures)
 
 put-answer-requires-2 : tie.Need-put-answer-requires-2
 put-answer-requires-2 c κs = search needs
@@ -39,7 +47,13 @@ same-length-3 c = search needs
 
 returns-3 : tie.Need-returns-3
 unfolding solverLines
-returns-3 c = rw (eq-eqb _ 0 (c .before .before .before .before .before .if1 .left), take-all (c .before .before .before .before .before .before .before .before .args .place) (c .before .before .before .before .before .before .before .before .args .output .now) (c .before .before .before .before .if2 .left)) (c .before .before .put-answer2 .ensures)
+returns-3 c =
+    let at-put-answer2 = c .before .before in
+    let at-if2 = at-put-answer2 .before .before in
+    let at-if1 = at-if2 .before in
+    let at-start = at-if1 .before .before .before in
+    rw (eq-eqb _ 0 (at-if1 .if1 .left), take-all (at-start .args .place) (at-start .args .output .now) (at-if2 .if2 .left))
+    (at-put-answer2 .put-answer2 .ensures)
 
 pub solver-lines-spec : {M : Type 1} → statement M
 solver-lines-spec =

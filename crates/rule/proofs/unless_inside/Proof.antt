@@ -1,7 +1,7 @@
 -- `unless_inside` meets its contract: the occurs check decides.
-use mathlib.Core.Path.{_≡_, sym, _∙_}
+use mathlib.Core.Path.{sym, _∙_}
 use Rattle.rule.proofs.Ruling.{cond-taken, cond-left}
-use Rattle.rule.specs.declared.Act.the-variants.{Inside, Protection}
+use Rattle.rule.specs.declared.Act.the-variants.{Inside}
 use borrow.Author.Needs.{needs}
 use Rattle.rule.proofs.unless_inside.Statement.{statement}
 use Rattle.rule.proofs.unless_inside.Tie as tie

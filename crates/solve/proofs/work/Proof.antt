@@ -6,7 +6,7 @@ use mathlib.Core.Path.{_≡_, _∙_, ap}
 use lib.ListN.{length}
 use Rattle.field.specs.Field.{Bytes}
 use Rattle.run.specs.Answer as run
-use Rattle.numbers.specs.Verdicts.{numberOf, placeOf, resultOf}
+use Rattle.numbers.specs.Verdicts.{verdictNumber, verdictPlace, resultOf}
 use Rattle.numbers.specs.declared.Verdict.{Verdict}
 use Rattle.printer.specs.Lines.{solverLines}
 use Rattle.printer.specs.Placed.{Placed}
@@ -19,7 +19,7 @@ use Rattle.solve.proofs.work.Tie as tie
 
 -- What is printed of the number and the place is the lines, where the solver gave back what the definition says; and they are there whole.
 told :
-    {n p r : ℕ} {o d e : List ℕ} (v : Verdict) (s : run.Result) → resultOf v o ≡ s → (n ≡ numberOf v) × (p ≡ placeOf v) →
+    {n p r : ℕ} {o d e : List ℕ} (v : Verdict) (s : run.Result) → resultOf v o ≡ s → (n ≡ verdictNumber v) × (p ≡ verdictPlace v) →
     n < 256 → p < 18446744073709551616 → Bytes o → 4 * length o ≤ length d → 33 ≤ length d →
     Placed d 0 (solverLines n p o) r e → Works s e (record { given = record { number = n; place = p }; end = r })
 told {n} {p} {r} {o} {d} {e} v s f a x y z l m h =

@@ -23,9 +23,9 @@ same-length c = search needs
 returns : tie.Need-returns
 returns c =
     let at-line = c .before .before .before .before in
-    let start = c .before .before .before .before .before .before .before in
-    wrote (at-line .cut-line .result) (cut-whole (start .args .count) (omega arith) (start .pre) (at-line .cut-line .ensures)) (c .put .ensures .1)
-    (at-line .cut-line .ensures .counts)
+    let start = at-line .before .before .before in
+    let line = at-line .cut-line in
+    wrote (line .result) (cut-whole (start .args .count) (omega arith) (start .pre) (line .ensures)) (c .put .ensures .1) (line .ensures .counts)
 
 pub cut-spec : {M : Type 1} → statement M
 cut-spec =

@@ -48,7 +48,9 @@ same-length : tie.Need-same-length
 same-length c = search needs
 
 returns-3 : tie.Need-returns-3
-returns-3 c = settles _ _ (c .before .before .before .before .before .enum-told3 .given .1) (c .standing3 .ensures) (c .before .before .before .cut .ensures)
+returns-3 c =
+    let at-cut = c .before .before .before in
+    settles _ _ (at-cut .before .before .enum-told3 .given .1) (c .standing3 .ensures) (at-cut .cut .ensures)
 
 returns-4 : tie.Need-returns-4
 returns-4 c = settles _ _ (c .before .before .enum-told4 .given .1) (c .standing4 .ensures) (quiet _ (c .before .nothing2 .ensures .0))

@@ -11,9 +11,7 @@ abbrev at-worked : tie.After-put → tie.After-worked
 at-worked c = c .before .before .before .before .before .before
 
 abbrev at-came : tie.After-put → tie.After-came
-at-came c =
-    let half = at-worked c .before .before .before .before .before .before .before .before .before .before .before .before .before in
-    half .before .before .before .before .before .before .before .before .before .before .before .before
+at-came c = at-worked c .before .before .before .before .before .before .before .before .before .before .before .before .before .before .before
 
 abbrev at-next : tie.After-put → tie.After-next
 at-next c = at-came c .before .before .before .before
@@ -58,7 +56,7 @@ put-requires : tie.Need-put-requires
 put-requires c κs = search needs
 
 same-length-2 : tie.Need-same-length-2
-same-length-2 c = at-next c .next .kept .0
+same-length-2 c = search needs
 
 same-length-3 : tie.Need-same-length-3
 same-length-3 c = search needs

@@ -1,21 +1,57 @@
 -- `run` meets its contract: nothing is demanded, the problem's equations wait, and the loop goes on from there.
-use Rattle.machine.proofs.Running.{began}
+use mathlib.Core.Path.{refl}
 use borrow.Author.Needs.{needs}
+use Rattle.problem.proofs.Counted.{all-equations}
+use Rattle.machine.proofs.Running.{few-nodes, few-variables, began}
 use Rattle.machine.proofs.verdict.run.Statement.{statement}
 use Rattle.machine.proofs.verdict.run.Tie as tie
 
+cast-equations : tie.Need-cast-equations
+cast-equations c = search needs
+
+cast-clear : tie.Need-cast-clear
+cast-clear c = search needs
+
+cast-clear-2 : tie.Need-cast-clear-2
+cast-clear-2 c = search needs
+
 clear-requires : tie.Need-clear-requires
-clear-requires c κs = search needs
+clear-requires c κs =
+    let at-start = c .before .before .before .before .before in
+    (few-nodes (at-start .pre), few-variables (at-start .pre))
 
 start-requires : tie.Need-start-requires
-start-requires c κs = search needs
+start-requires c κs =
+    let at-start = c .before .before .before .before .before .before .before .before in
+    (at-start .pre .standing, all-equations _ (at-start .pre .counts))
+
+empty-requires : tie.Need-empty-requires
+empty-requires c κs = search needs
+
+cast-go : tie.Need-cast-go
+cast-go c = search needs
 
 go-requires : tie.Need-go-requires
 go-requires c κs =
-    began _ _ _ _ _ _ _ _ _ _ _ _ _ _ _ _ (c .before .before .before .before .before .before .before .before .before .before .before .before .before .before .before .before .before .before .before .before .before .before .before .pre) (c .before .before .before .before .before .before .before .before .before .before .before .before .before .before .before .before .before .before .before .clear .ensures .0) (c .before .before .before .before .before .before .before .before .before .before .before .before .before .before .before .before .before .before .before .clear .ensures .1) (c .before .before .before .before .before .before .before .before .before .before .before .before .before .start .ensures)
+    let at-empty = c .before .before .before .before .before .before .before in
+    let at-stack = at-empty .before in
+    let at-clear = at-stack .before .before .before in
+    let at-start = at-clear .before .before .before .before .before .before in
+    began (at-start .pre) _ (at-clear .clear .ensures) (at-stack .start .ensures) (at-empty .empty .ensures) refl
 
 returns : tie.Need-returns
 returns c = search needs
 
 pub run-spec : {M : Type 1} → statement M
-run-spec = tie.close (tie.spec clear-requires start-requires go-requires returns)
+run-spec =
+    tie.close
+    (tie.spec
+    cast-equations
+    cast-clear
+    cast-clear-2
+    clear-requires
+    start-requires
+    empty-requires
+    cast-go
+    go-requires
+    returns)

@@ -10,7 +10,8 @@ use Rattle.problem.proofs.reader.clear.Statement.{statement}
 use Rattle.problem.proofs.reader.clear.Tie as tie
 
 abbrev Inv-loop : tie.InvT-loop
-Inv-loop assumed₀ variables n i₀ assumed i = (variables ≤ length assumed₀) × (n ≡ variables) × (length assumed ≡ length assumed₀) × (i ≤ n) × (assumed ≡ replicate i 0 ++ drop i assumed₀)
+Inv-loop assumed₀ variables n i₀ assumed i =
+    (variables ≤ length assumed₀) × (n ≡ variables) × (length assumed ≡ length assumed₀) × (i ≤ n) × (assumed ≡ replicate i 0 ++ drop i assumed₀)
 
 abbrev μ-loop : tie.MeasureT-loop
 μ-loop assumed₀ variables n i₀ assumed i = n - i
@@ -31,13 +32,21 @@ loop-less : tie.Need-loop-less Inv-loop μ-loop
 loop-less c = search needs
 
 loop-again : tie.Need-loop-again Inv-loop μ-loop
-loop-again c = let h = c .before .loop .inv in (h .0, h .1, length-set (c .before .loop .assumed) (c .before .loop .i) 0 ∙ h .2, omega arith, rw (h .4) (cleared-one (c .before .before .args .assumed .now) (c .before .loop .i) (omega arith)))
+loop-again c =
+    let in-loop = c .before in
+    let h = in-loop .loop .inv in
+    let one-more = cleared-one (in-loop .before .args .assumed .now) (in-loop .loop .i) (omega arith) in
+    (h .0, h .1, length-set (in-loop .loop .assumed) (in-loop .loop .i) 0 ∙ h .2, omega arith, rw (h .4) one-more)
 
 same-length : tie.Need-same-length Inv-loop μ-loop
 same-length c = c .before .loop .inv .2
 
 returns : tie.Need-returns Inv-loop μ-loop
-returns c = let h = c .before .loop .inv in let e : c .before .loop .i ≡ c .before .before .args .variables = omega arith in h .4 ∙ rw e
+returns c =
+    let in-loop = c .before in
+    let h = in-loop .loop .inv in
+    let e : in-loop .loop .i ≡ in-loop .before .args .variables = omega arith in
+    h .4 ∙ rw e
 
 pub clear-spec : {M : Type 1} → statement M
 clear-spec =

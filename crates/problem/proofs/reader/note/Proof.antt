@@ -1,63 +1,109 @@
--- `reader::note`. For each thing said, its own table and its own count.
-use mathlib.Core.Path.{ap, subst}
+-- `reader::note`. For each thing said, its own column or set, and its own count.
+use mathlib.Core.Path.{_≡_, subst}
 use native.Mathlib.Omega.{arith}
 use Rattle.problem.specs.Tables.{tables}
-use Rattle.problem.specs.Noting.{RoomFor}
+use Rattle.problem.specs.Noting.{NotedWithin, RowFor}
 use Rattle.problem.specs.declared.says.Said.{Said}
+use Rattle.problem.specs.declared.says.Said.the-variants.{Node, Equation, Freshness, Assumption}
 use borrow.Author.Needs.{needs}
 use Rattle.problem.proofs.reader.note.Statement.{statement}
 use Rattle.problem.proofs.reader.note.Tie as tie
 
+module _ (at-start : tie.Start) where
+  -- What was said is within the limits, once it is known what was said.
+  within : (x : Said) → at-start .args .said ≡ x → NotedWithin x (at-start .args .c)
+  within x e = subst (λ (y : Said). NotedWithin y (at-start .args .c)) e (at-start .pre)
+
+  -- The tables have a row for it.
+  abbrev HasRow : Said → Type 0
+  HasRow x = RowFor x (at-start .args .c) (tables (at-start .args .places .now) (at-start .args .assumed .now))
+
+-- A node's is in the first column, an equation's in the second, a freshness field's in the third.
+node-row : (c : tie.After-put-arg) → HasRow (c .before .before .before) Node
+node-row c =
+    let told = c .before in
+    let h = within (told .before .before) Node (told .enum-told .given .1) in
+    omega (arith, c .put-arg .given .0 .1)
+
+equation-row : (c : tie.After-put-arg2) → HasRow (c .before .before .before) Equation
+equation-row c =
+    let told = c .before in
+    let h = within (told .before .before) Equation (told .enum-told2 .given .1) in
+    omega (arith, c .put-arg2 .given .0 .1)
+
+freshness-row : (c : tie.After-put-arg3) → HasRow (c .before .before .before) Freshness
+freshness-row c =
+    let told = c .before in
+    let h = within (told .before .before) Freshness (told .enum-told3 .given .1) in
+    omega (arith, c .put-arg3 .given .0 .1)
+
+assumption-row : (c : tie.After-assume-arg)
+    → let told = c .before .before in
+    HasRow (told .before .before) (Assumption (told .said .given .0 .0) (told .said .given .0 .1 .0))
+assumption-row c =
+    let told = c .before .before in
+    let h = within (told .before .before) _ (told .said .given .1) in
+    omega (arith, c .assume-arg .given .0 .1)
+
 enum-told : tie.Need-enum-told
 enum-told c = search needs
 
-cast-places : tie.Need-cast-places
-cast-places c = search needs
+index-1-put : tie.Need-index-1-put
+index-1-put c = search needs
 
-mul-places : tie.Need-mul-places
-mul-places c = search needs
+cast-put : tie.Need-cast-put
+cast-put c = search needs
 
-slice-write-places : tie.Need-slice-write-places
-slice-write-places c = (subst (λ (x : Said). RoomFor x (c .before .before .before .before .before .before .before .args .c) (tables (c .before .before .before .before .before .before .before .args .places .now) (c .before .before .before .before .before .before .before .args .equation-places .now) (c .before .before .before .before .before .before .before .args .fresh-places .now) (c .before .before .before .before .before .before .before .args .assumed .now))) (c .before .enum-told .given .1) (c .before .before .before .before .before .before .before .pre)) .1
+put-requires : tie.Need-put-requires
+put-requires c κs = node-row (c .before)
 
 add-d : tie.Need-add-d
-add-d c = let h = (subst (λ (x : Said). RoomFor x (c .before .before .before .before .before .before .before .before .args .c) (tables (c .before .before .before .before .before .before .before .before .args .places .now) (c .before .before .before .before .before .before .before .before .args .equation-places .now) (c .before .before .before .before .before .before .before .before .args .fresh-places .now) (c .before .before .before .before .before .before .before .before .args .assumed .now))) (c .before .before .enum-told .given .1) (c .before .before .before .before .before .before .before .before .pre)) .0 in omega arith
+add-d c =
+    let told = c .before .before .before .before in
+    let h = within (told .before .before) Node (told .enum-told .given .1) in
+    omega arith
 
 enum-told-2 : tie.Need-enum-told-2
 enum-told-2 c = search needs
 
-cast-equation-places : tie.Need-cast-equation-places
-cast-equation-places c = search needs
+index-1-put-2 : tie.Need-index-1-put-2
+index-1-put-2 c = search needs
 
-mul-equation-places : tie.Need-mul-equation-places
-mul-equation-places c = search needs
+cast-put-2 : tie.Need-cast-put-2
+cast-put-2 c = search needs
 
-slice-write-equation-places : tie.Need-slice-write-equation-places
-slice-write-equation-places c = (subst (λ (x : Said). RoomFor x (c .before .before .before .before .before .before .before .args .c) (tables (c .before .before .before .before .before .before .before .args .places .now) (c .before .before .before .before .before .before .before .args .equation-places .now) (c .before .before .before .before .before .before .before .args .fresh-places .now) (c .before .before .before .before .before .before .before .args .assumed .now))) (c .before .enum-told2 .given .1) (c .before .before .before .before .before .before .before .pre)) .1
+put-requires-2 : tie.Need-put-requires-2
+put-requires-2 c κs = equation-row (c .before)
 
 add-d-2 : tie.Need-add-d-2
-add-d-2 c = let h = (subst (λ (x : Said). RoomFor x (c .before .before .before .before .before .before .before .before .args .c) (tables (c .before .before .before .before .before .before .before .before .args .places .now) (c .before .before .before .before .before .before .before .before .args .equation-places .now) (c .before .before .before .before .before .before .before .before .args .fresh-places .now) (c .before .before .before .before .before .before .before .before .args .assumed .now))) (c .before .before .enum-told2 .given .1) (c .before .before .before .before .before .before .before .before .pre)) .0 in omega arith
+add-d-2 c =
+    let told = c .before .before .before .before in
+    let h = within (told .before .before) Equation (told .enum-told2 .given .1) in
+    omega arith
 
 enum-told-3 : tie.Need-enum-told-3
 enum-told-3 c = search needs
 
-cast-fresh-places : tie.Need-cast-fresh-places
-cast-fresh-places c = search needs
+index-1-put-3 : tie.Need-index-1-put-3
+index-1-put-3 c = search needs
 
-mul-fresh-places : tie.Need-mul-fresh-places
-mul-fresh-places c = search needs
+cast-put-3 : tie.Need-cast-put-3
+cast-put-3 c = search needs
 
-slice-write-fresh-places : tie.Need-slice-write-fresh-places
-slice-write-fresh-places c = (subst (λ (x : Said). RoomFor x (c .before .before .before .before .before .before .before .args .c) (tables (c .before .before .before .before .before .before .before .args .places .now) (c .before .before .before .before .before .before .before .args .equation-places .now) (c .before .before .before .before .before .before .before .args .fresh-places .now) (c .before .before .before .before .before .before .before .args .assumed .now))) (c .before .enum-told3 .given .1) (c .before .before .before .before .before .before .before .pre)) .1
+put-requires-3 : tie.Need-put-requires-3
+put-requires-3 c κs = freshness-row (c .before)
 
 add-d-3 : tie.Need-add-d-3
-add-d-3 c = let h = (subst (λ (x : Said). RoomFor x (c .before .before .before .before .before .before .before .before .args .c) (tables (c .before .before .before .before .before .before .before .before .args .places .now) (c .before .before .before .before .before .before .before .before .args .equation-places .now) (c .before .before .before .before .before .before .before .before .args .fresh-places .now) (c .before .before .before .before .before .before .before .before .args .assumed .now))) (c .before .before .enum-told3 .given .1) (c .before .before .before .before .before .before .before .before .pre)) .0 in omega arith
+add-d-3 c =
+    let told = c .before .before .before .before in
+    let h = within (told .before .before) Freshness (told .enum-told3 .given .1) in
+    omega arith
 
 enum-known-said : tie.Need-enum-known-said
 enum-known-said c = search needs
 
 assume-requires : tie.Need-assume-requires
-assume-requires c κs = (subst (λ (x : Said). RoomFor x (c .before .before .before .before .before .before .before .before .args .c) (tables (c .before .before .before .before .before .before .before .before .args .places .now) (c .before .before .before .before .before .before .before .before .args .equation-places .now) (c .before .before .before .before .before .before .before .before .args .fresh-places .now) (c .before .before .before .before .before .before .before .before .args .assumed .now))) (c .before .before .said .given .1) (c .before .before .before .before .before .before .before .before .pre))
+assume-requires c κs = assumption-row c
 
 enum-known-said-2 : tie.Need-enum-known-said-2
 enum-known-said-2 c = search needs
@@ -68,67 +114,63 @@ with-requires c κs = search needs
 enum-told-4 : tie.Need-enum-told-4
 enum-told-4 c = search needs
 
-same-length : tie.Need-same-length
-same-length c = search needs
-
 returns : tie.Need-returns
-returns c = (rw (c .before .before .enum-told .given .1), rw (c .before .before .enum-told .given .1))
-
-same-length-2 : tie.Need-same-length-2
-same-length-2 c = search needs
+returns c =
+    let at-arg = c .before .before .before in
+    let told = at-arg .before .enum-told .given .1 in
+    (rw told, rw (told, c .before .put .ensures), rw told (node-row at-arg))
 
 returns-2 : tie.Need-returns-2
-returns-2 c = (rw (c .before .before .enum-told2 .given .1), rw (c .before .before .enum-told2 .given .1))
-
-same-length-3 : tie.Need-same-length-3
-same-length-3 c = search needs
+returns-2 c =
+    let at-arg = c .before .before .before in
+    let told = at-arg .before .enum-told2 .given .1 in
+    (rw told, rw (told, c .before .put2 .ensures), rw told (equation-row at-arg))
 
 returns-3 : tie.Need-returns-3
-returns-3 c = (rw (c .before .before .enum-told3 .given .1), rw (c .before .before .enum-told3 .given .1))
-
-same-length-4 : tie.Need-same-length-4
-same-length-4 c = search needs
+returns-3 c =
+    let at-arg = c .before .before .before in
+    let told = at-arg .before .enum-told3 .given .1 in
+    (rw told, rw (told, c .before .put3 .ensures), rw told (freshness-row at-arg))
 
 returns-4 : tie.Need-returns-4
-returns-4 c = (rw (c .before .before .before .before .before .said .given .1), rw (c .before .before .before .before .before .said .given .1) (ap (tables (c .before .before .before .before .before .before .before .before .before .before .before .args .places .now) (c .before .before .before .before .before .before .before .before .before .before .before .args .equation-places .now) (c .before .before .before .before .before .before .before .before .before .before .before .args .fresh-places .now)) (c .before .before .assume .ensures)))
+returns-4 c =
+    let at-arg = c .before in
+    let told = at-arg .before .before .said .given .1 in
+    (rw told, rw (told, c .assume .ensures), rw told (assumption-row at-arg))
 
 returns-5 : tie.Need-returns-5
-returns-5 c = (rw (c .before .before .before .said2 .given .1, c .with .ensures), rw (c .before .before .before .said2 .given .1))
+returns-5 c = let told = c .before .before .before .said2 .given .1 in (rw (told, c .with .ensures), rw told, rw told tt)
 
 returns-6 : tie.Need-returns-6
-returns-6 c = (rw (c .enum-told4 .given .1), rw (c .enum-told4 .given .1))
+returns-6 c = let told = c .enum-told4 .given .1 in (rw told, rw told, rw told tt)
 
 pub note-spec : {M : Type 1} → statement M
 note-spec =
     tie.close
     (tie.spec
     enum-told
-    cast-places
-    mul-places
-    slice-write-places
+    index-1-put
+    cast-put
+    put-requires
     add-d
     enum-told-2
-    cast-equation-places
-    mul-equation-places
-    slice-write-equation-places
+    index-1-put-2
+    cast-put-2
+    put-requires-2
     add-d-2
     enum-told-3
-    cast-fresh-places
-    mul-fresh-places
-    slice-write-fresh-places
+    index-1-put-3
+    cast-put-3
+    put-requires-3
     add-d-3
     enum-known-said
     assume-requires
     enum-known-said-2
     with-requires
     enum-told-4
-    same-length
     returns
-    same-length-2
     returns-2
-    same-length-3
     returns-3
-    same-length-4
     returns-4
     returns-5
     returns-6)

@@ -1,13 +1,14 @@
 -- `reader::read`. Too long, no good head, a head that is cut, and a good head: each way is a law of `Opened`.
-use Prim.Native.Nat.{_-_}
+use Prim.Native.Nat.{ℕ}
 use native.Mathlib.Omega.{arith}
 use mathlib.Core.Path.{_≡_, refl, sym, _∙_, ap}
-use lib.ListN.{length, take, drop, length-drop}
+use mathlib.Core.List.{List}
+use lib.ListN.{length, length-drop}
 use Rattle.field.specs.Field.{Bytes}
 use Rattle.field.proofs.Standing.{tail-part}
-use Rattle.problem.specs.Reader.{baseTags, started}
+use Rattle.problem.specs.Reader.{started}
 use Rattle.problem.specs.Told.{countsOf}
-use Rattle.problem.specs.Tables.{tables, cleared, notedFrom}
+use Rattle.problem.specs.Tables.{Tables, tables, cleared}
 use Rattle.problem.specs.Opening.{openingOf}
 use Rattle.problem.specs.declared.reader.Opening.the-variants.{Good}
 use Rattle.problem.proofs.Opened.{GoodHead, good-head, too-long, headless, cut-open, well-opened}
@@ -15,17 +16,19 @@ use borrow.Author.Needs.{needs}
 use Rattle.problem.proofs.reader.read.Statement.{statement}
 use Rattle.problem.proofs.reader.read.Tie as tie
 
-bytes : (c : tie.After-shared-slice-known) → Bytes (c .before .args .s .now)
-bytes c i = c .shared-slice-known .given i .fits
+-- The input, the tables as they were lent, and what is known of the bytes.
+module _ (c : tie.After-shared-slice-known) where
+  abbrev input : List ℕ
+  input = c .before .args .s .now
 
-the-opening : (c : tie.After-o) → openingOf (c .before .before .before .before .before .args .s .now) ≡ Good (c .o .given .0 .0) (c .o .given .0 .1 .0) (c .o .given .0 .1 .1 .0)
-the-opening c = sym (c .before .before .opened .ensures) ∙ c .o .given .1
+  abbrev lent : Tables
+  lent = tables (c .before .args .places .now) (c .before .args .assumed .now)
 
-the-head : (c : tie.After-o) → GoodHead (c .before .before .before .before .before .args .s .now) (c .o .given .0 .0) (c .o .given .0 .1 .0) (c .o .given .0 .1 .1 .0)
-the-head c = good-head (c .before .before .before .before .before .args .s .now) (c .o .given .0 .0) (c .o .given .0 .1 .0) (c .o .given .0 .1 .1 .0) (the-opening c)
+  bytes : Bytes input
+  bytes i = c .shared-slice-known .given i .fits
 
 returns : tie.Need-returns
-returns c = too-long (c .before .before .args .s .now) (tables (c .before .before .args .places .now) (c .before .before .args .equation-places .now) (c .before .before .args .fresh-places .now) (c .before .before .args .assumed .now)) (bytes (c .before)) (c .if1 .taken)
+returns c = too-long (input (c .before)) (lent (c .before)) (bytes (c .before)) (c .if1 .taken)
 
 opened-requires : tie.Need-opened-requires
 opened-requires c κs = search needs
@@ -36,11 +39,45 @@ enum-told c = search needs
 enum-told-2 : tie.Need-enum-told-2
 enum-told-2 c = search needs
 
+returns-2 : tie.Need-returns-2
+returns-2 c =
+    let at-opened = c .before .before in
+    let at-if1 = at-opened .before in
+    let at-input = at-if1 .before in
+    headless (input at-input) (lent at-input) (bytes at-input) (at-if1 .if1 .left) (sym (at-opened .opened .ensures) ∙ c .enum-told .given .1)
+
+returns-3 : tie.Need-returns-3
+returns-3 c =
+    let at-opened = c .before .before in
+    let at-if1 = at-opened .before in
+    let at-input = at-if1 .before in
+    cut-open (input at-input) (lent at-input) (bytes at-input) (at-if1 .if1 .left) (sym (at-opened .opened .ensures) ∙ c .enum-told2 .given .1)
+
 enum-known-o : tie.Need-enum-known-o
 enum-known-o c = search needs
 
+-- The head is good: its atoms, its variables and its step limit.
+module _ (c : tie.After-o) where
+  abbrev at-input : tie.After-shared-slice-known
+  at-input = c .before .before .before .before
+
+  abbrev atoms : ℕ
+  atoms = c .o .given .0 .0
+
+  abbrev variables : ℕ
+  variables = c .o .given .0 .1 .0
+
+  abbrev limit : ℕ
+  limit = c .o .given .0 .1 .1 .0
+
+  the-opening : openingOf (input at-input) ≡ Good atoms variables limit
+  the-opening = sym (c .before .before .opened .ensures) ∙ c .o .given .1
+
+  the-head : GoodHead (input at-input) atoms variables limit
+  the-head = good-head (input at-input) atoms variables limit the-opening
+
 clear-requires : tie.Need-clear-requires
-clear-requires c κs = let l : length (c .before .before .before .before .before .before .before .args .assumed .now) ≡ 64 = c .clear-arg .given .0 .1 in omega (arith, the-head (c .before .before) .few-variables)
+clear-requires c κs = omega (arith, c .clear-arg .given .0 .1, the-head (c .before .before) .few-variables)
 
 sub-fields : tie.Need-sub-fields
 sub-fields c = the-head (c .before .before .before) .nine
@@ -54,32 +91,22 @@ part-fields-end c = search needs
 fields-requires : tie.Need-fields-requires
 unfolding countsOf started
 fields-requires c κs =
-    let l : length (take (length (c .before .before .before .before .before .before .before .before .before .before .before .before .before .args .s .now) - 9) (drop 9 (c .before .before .before .before .before .before .before .before .before .before .before .before .before .args .s .now))) ≡ length (c .before .before .before .before .before .before .before .before .before .before .before .before .before .args .s .now) - 9 = ap length (tail-part (c .before .before .before .before .before .before .before .before .before .before .before .before .before .args .s .now) 9) ∙ length-drop 9 (c .before .before .before .before .before .before .before .before .before .before .before .before .before .args .s .now) in
+    let at-o = c .before .before .before .before .before .before in
+    let s = input (at-input at-o) in
+    let l = ap length (tail-part s 9) ∙ length-drop 9 s in
     record {
       nothing = refl;
-      short = omega (arith, the-head (c .before .before .before .before .before .before .before .before) .nine, c .before .before .before .before .before .before .before .before .before .before .before .if1 .left);
-      few-variables = the-head (c .before .before .before .before .before .before .before .before) .few-variables;
-      node-room = c .before .before .before .fields-arg2 .given .0 .1;
-      equation-room = c .before .before .fields-arg3 .given .0 .1;
-      fresh-room = c .before .fields-arg4 .given .0 .1;
-      variable-room = c .fields-arg5 .given .0 .1;
+      readable = the-head at-o .start-readable (bytes (at-input at-o));
+      short = omega (arith, l, the-head at-o .nine, at-o .before .before .before .if1 .left);
     }
-
-returns-2 : tie.Need-returns-2
-returns-2 c = headless (c .before .before .before .before .before .args .s .now) (tables (c .before .before .before .before .before .args .places .now) (c .before .before .before .before .before .args .equation-places .now) (c .before .before .before .before .before .args .fresh-places .now) (c .before .before .before .before .before .args .assumed .now)) (bytes (c .before .before .before .before)) (c .before .before .before .if1 .left) (sym (c .before .before .opened .ensures) ∙ c .enum-told .given .1)
-
-returns-3 : tie.Need-returns-3
-returns-3 c = cut-open (c .before .before .before .before .before .args .s .now) (tables (c .before .before .before .before .before .args .places .now) (c .before .before .before .before .before .args .equation-places .now) (c .before .before .before .before .before .args .fresh-places .now) (c .before .before .before .before .before .args .assumed .now)) (bytes (c .before .before .before .before)) (c .before .before .before .if1 .left) (sym (c .before .before .opened .ensures) ∙ c .enum-told2 .given .1)
 
 returns-4 : tie.Need-returns-4
 unfolding cleared
 returns-4 c =
-    well-opened (c .before .before .before .before .before .before .before .before .before .before .before .before .before .before .args .s .now) (tables (c .before .before .before .before .before .before .before .before .before .before .before .before .before .before .args .places .now) (c .before .before .before .before .before .before .before .before .before .before .before .before .before .before .args .equation-places .now) (c .before .before .before .before .before .before .before .before .before .before .before .before .before .before .args .fresh-places .now) (c .before .before .before .before .before .before .before .before .before .before .before .before .before .before .args .assumed .now)) (bytes (c .before .before .before .before .before .before .before .before .before .before .before .before .before)) (c .before .before .before .before .before .before .before .before .before .before .before .before .if1 .left) (c .before .before .before .before .before .before .before .before .before .o .given .0 .0) (c .before .before .before .before .before .before .before .before .before .o .given .0 .1 .0) (c .before .before .before .before .before .before .before .before .before .o .given .0 .1 .1 .0)
-    (tables (c .fields .last .1 .1 .0) (c .fields .last .1 .1 .1 .0) (c .fields .last .1 .1 .1 .1 .0) (c .fields .last .1 .1 .1 .1 .1 .0)) (c .fields .result) (the-opening (c .before .before .before .before .before .before .before .before .before))
-    (record { node-room = c .before .before .before .before .fields-arg2 .given .0 .1; equation-room = c .before .before .before .fields-arg3 .given .0 .1; fresh-room = c .before .before .fields-arg4 .given .0 .1; variable-room = c .before .before .before .before .before .before .before .clear-arg .given .0 .1 })
-    (rw (tail-part (c .before .before .before .before .before .before .before .before .before .before .before .before .before .before .args .s .now) 9) at (c .fields .ensures .0))
-    ((rw (tail-part (c .before .before .before .before .before .before .before .before .before .before .before .before .before .before .args .s .now) 9) at (c .fields .ensures .1))
-    ∙ ap (λ x. notedFrom baseTags (length (drop 9 (c .before .before .before .before .before .before .before .before .before .before .before .before .before .before .args .s .now))) (started (c .before .before .before .before .before .before .before .before .before .o .given .0 .0) (c .before .before .before .before .before .before .before .before .before .o .given .0 .1 .0) (c .before .before .before .before .before .before .before .before .before .o .given .0 .1 .1 .0)) 9 (drop 9 (c .before .before .before .before .before .before .before .before .before .before .before .before .before .before .args .s .now)) (tables (c .before .before .before .before .before .before .before .before .before .before .before .before .before .before .args .places .now) (c .before .before .before .before .before .before .before .before .before .before .before .before .before .before .args .equation-places .now) (c .before .before .before .before .before .before .before .before .before .before .before .before .before .before .args .fresh-places .now) x)) (c .before .before .before .before .before .before .clear .ensures))
+    let at-o = c .before .before .before .before .before .before .before in
+    let at-start = at-input at-o in
+    well-opened (input at-start) (lent at-start) (bytes at-start) (at-o .before .before .before .if1 .left) _ _ (c .fields .result) (the-opening at-o)
+    (rw (tail-part (input at-start) 9, c .before .before .before .before .clear .ensures) at (c .fields .ensures))
 
 pub read-spec : {M : Type 1} → statement M
 read-spec =

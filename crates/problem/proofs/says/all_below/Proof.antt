@@ -1,8 +1,9 @@
 -- `says::all_below`. What is left to look at decides as all of it did, and it gets shorter.
 use borrow.Author.Needs.{needs}
 use mathlib.Core.Path.{_≡_, refl, sym, _∙_}
-use Prim.Native.Nat.{_≤_, _-_}
+use Prim.Native.Nat.{ℕ, _≤_, _-_}
 use native.Mathlib.Omega.{arith}
+use mathlib.Core.List.{List}
 use lib.ListN.{length, drop}
 use Rattle.problem.specs.Told.{below}
 use Rattle.problem.proofs.Saying.{below-stops, below-goes, below-ends}
@@ -15,6 +16,17 @@ Inv-loop b atoms i₀ i = (i ≤ length b) × (below atoms b ≡ below atoms (dr
 abbrev μ-loop : tie.MeasureT-loop
 μ-loop b atoms i₀ i = length b - i
 
+-- In the loop: the bytes, how many atoms there are, and the place that is looked at.
+module _ (c : tie.At-loop Inv-loop μ-loop) where
+  abbrev atoms : ℕ
+  atoms = c .before .args .atoms
+
+  abbrev bytes : List ℕ
+  bytes = c .before .args .b .now
+
+  abbrev place : ℕ
+  place = c .loop .i
+
 loop-holds : tie.Need-loop-holds Inv-loop μ-loop
 loop-holds c = (omega arith, refl)
 
@@ -22,7 +34,9 @@ shared-slice-read-if1 : tie.Need-shared-slice-read-if1 Inv-loop μ-loop
 shared-slice-read-if1 c = search needs
 
 returns : tie.Need-returns Inv-loop μ-loop
-returns c = sym (c .before .before .before .loop .inv .1 ∙ below-stops (c .before .before .before .before .args .atoms) (c .before .before .before .before .args .b .now) (c .before .before .before .loop .i) (c .before .before .loop-test .taken) (c .if1 .taken))
+returns c =
+    let in-loop = c .before .before .before in
+    sym (in-loop .loop .inv .1 ∙ below-stops (atoms in-loop) (bytes in-loop) (place in-loop) (c .before .before .loop-test .taken) (c .if1 .taken))
 
 add-i : tie.Need-add-i Inv-loop μ-loop
 add-i c = search needs
@@ -31,10 +45,15 @@ loop-less : tie.Need-loop-less Inv-loop μ-loop
 loop-less c = search needs
 
 loop-again : tie.Need-loop-again Inv-loop μ-loop
-loop-again c = (omega arith, c .before .before .before .loop .inv .1 ∙ below-goes (c .before .before .before .before .args .atoms) (c .before .before .before .before .args .b .now) (c .before .before .before .loop .i) (c .before .before .loop-test .taken) (c .if1 .left))
+loop-again c =
+    let in-loop = c .before .before .before in
+    let goes = below-goes (atoms in-loop) (bytes in-loop) (place in-loop) (c .before .before .loop-test .taken) (c .if1 .left) in
+    (omega arith, in-loop .loop .inv .1 ∙ goes)
 
 returns-2 : tie.Need-returns-2 Inv-loop μ-loop
-returns-2 c = sym (c .before .loop .inv .1 ∙ below-ends (c .before .before .args .atoms) (c .before .before .args .b .now) (c .before .loop .i) (c .loop-test .left))
+returns-2 c =
+    let in-loop = c .before in
+    sym (in-loop .loop .inv .1 ∙ below-ends (atoms in-loop) (bytes in-loop) (place in-loop) (c .loop-test .left))
 
 pub all-below-spec : {M : Type 1} → statement M
 all-below-spec =

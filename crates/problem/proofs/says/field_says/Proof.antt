@@ -1,7 +1,7 @@
 -- `says::field_says`: each tag's own function answers for it, and any other tag is unknown.
-use mathlib.Core.Path.{sym}
-use Rattle.problem.specs.Told.{sized}
-use Rattle.problem.proofs.Saying.{unknown, no-base-tag}
+use Rattle.problem.specs.Reader.{fault}
+use Rattle.problem.specs.Told.{saidOf}
+use Rattle.problem.proofs.Saying.{no-base-tag}
 use borrow.Author.Needs.{needs}
 use Rattle.problem.proofs.says.field_says.Statement.{statement}
 use Rattle.problem.proofs.says.field_says.Tie as tie
@@ -37,48 +37,52 @@ protection-requires : tie.Need-protection-requires
 protection-requires c κs = search needs
 
 returns : tie.Need-returns
-returns c =
-    rw (c .before .match .keys1) (c .unit .ensures)
+returns c = rw (c .before .match .keys1) (c .unit .ensures)
 
 returns-2 : tie.Need-returns-2
-returns-2 c =
-    rw (c .before .match .keys2) (c .atom .ensures)
+returns-2 c = rw (c .before .match .keys2) (c .atom .ensures)
 
 returns-3 : tie.Need-returns-3
-returns-3 c =
-    rw (c .before .match .keys3) (c .abstraction .ensures)
+returns-3 c = rw (c .before .match .keys3) (c .abstraction .ensures)
 
 returns-4 : tie.Need-returns-4
-returns-4 c =
-    rw (c .before .match .keys4) (c .pair .ensures)
+returns-4 c = rw (c .before .match .keys4) (c .pair .ensures)
 
 returns-5 : tie.Need-returns-5
-returns-5 c =
-    rw (c .before .match .keys5) (c .application .ensures)
+returns-5 c = rw (c .before .match .keys5) (c .application .ensures)
 
 returns-6 : tie.Need-returns-6
-returns-6 c =
-    rw (c .before .match .keys6) (c .suspension .ensures)
+returns-6 c = rw (c .before .match .keys6) (c .suspension .ensures)
 
 returns-7 : tie.Need-returns-7
-returns-7 c =
-    rw (c .before .match .keys7) (c .equation .ensures)
+returns-7 c = rw (c .before .match .keys7) (c .equation .ensures)
 
 returns-8 : tie.Need-returns-8
-returns-8 c =
-    rw (c .before .match .keys8) (c .freshness .ensures)
+returns-8 c = rw (c .before .match .keys8) (c .freshness .ensures)
 
 returns-9 : tie.Need-returns-9
-returns-9 c =
-    rw (c .before .match .keys9) (c .assumption .ensures)
+returns-9 c = rw (c .before .match .keys9) (c .assumption .ensures)
 
 returns-10 : tie.Need-returns-10
-returns-10 c =
-    rw (c .before .match .keys10) (c .protection .ensures)
+returns-10 c = rw (c .before .match .keys10) (c .protection .ensures)
 
 returns-11 : tie.Need-returns-11
+unfolding saidOf fault
 returns-11 c =
-    sym (unknown (sized (c .before .before .args .z)) (c .before .before .args .tag) (c .before .before .args .b .now) (no-base-tag (c .before .before .args .tag) (c .match .rest .0 .0 .0 .0 .0 .0 .0 .0 .0 .1) (c .match .rest .0 .0 .0 .0 .0 .0 .0 .0 .1) (c .match .rest .0 .0 .0 .0 .0 .0 .0 .1) (c .match .rest .0 .0 .0 .0 .0 .0 .1) (c .match .rest .0 .0 .0 .0 .0 .1) (c .match .rest .0 .0 .0 .0 .1) (c .match .rest .0 .0 .0 .1) (c .match .rest .0 .0 .1) (c .match .rest .0 .1) (c .match .rest .1)))
+    let other = c .match .rest in
+    let tag = c .before .before .args .tag in
+    rw (no-base-tag tag (record {
+      no-unit = other .0 .0 .0 .0 .0 .0 .0 .0 .0 .1;
+      no-atom = other .0 .0 .0 .0 .0 .0 .0 .0 .1;
+      no-abstraction = other .0 .0 .0 .0 .0 .0 .0 .1;
+      no-pair = other .0 .0 .0 .0 .0 .0 .1;
+      no-application = other .0 .0 .0 .0 .0 .1;
+      no-suspension = other .0 .0 .0 .0 .1;
+      no-equation = other .0 .0 .0 .1;
+      no-freshness = other .0 .0 .1;
+      no-assumption = other .0 .1;
+      no-protection = other .1;
+    }))
 
 pub field-says-spec : {M : Type 1} → statement M
 field-says-spec =

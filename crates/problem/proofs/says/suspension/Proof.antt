@@ -1,39 +1,47 @@
--- `says::suspension`: each way out is the law for the tests passed so far.
-use mathlib.Core.Path.{refl, sym, ap, _∙_}
-use Prim.Native.Nat.{_%_}
+-- `says::suspension`: each way out by the tests that are passed, and the one that fails.
+use mathlib.Core.Path.{_≡_, sym, ap, _∙_}
 use borrow.Author.Tests.{eq-eqb, ne-eqb, lt-ltb, le-ltb, le-leb, lt-leb}
-use lib.ListN.{length}
-use Rattle.field.specs.Field.{byte}
+use lib.ListN.{length, drop}
 use Rattle.field.proofs.Standing.{tail-part}
-use Rattle.problem.specs.Reader.{baseTags, lengthFits, item, room, there}
-use Rattle.problem.specs.Told.{sized, below}
-use Rattle.problem.proofs.Saying.{wrong-length, too-many, not-there, sound, suspended}
+use Rattle.problem.specs.Reader.{baseTags, lengthFits, swapsIn, swapsThere, item, room, there, fault}
+use Rattle.problem.specs.Told.{saidOf, below}
+use Rattle.problem.proofs.Saying.{suspended}
 use borrow.Author.Needs.{needs}
 use Rattle.problem.proofs.says.suspension.Statement.{statement}
 use Rattle.problem.proofs.says.suspension.Tie as tie
 
 returns : tie.Need-returns
-unfolding baseTags lengthFits item room there
-returns c =
-    sym (wrong-length (sized (c .before .before .args .z)) 0x15 (c .before .before .args .b .now) refl (rw (ne-eqb (length (c .before .before .args .b .now) % 2) 1 (c .if1 .taken))))
+unfolding saidOf fault baseTags lengthFits item room there
+returns c = rw (ne-eqb _ 1 (c .if1 .taken))
 
 returns-2 : tie.Need-returns-2
-unfolding baseTags lengthFits item room there
+unfolding saidOf fault baseTags lengthFits item room there
 returns-2 c =
-    sym (wrong-length (sized (c .before .before .before .args .z)) 0x15 (c .before .before .before .args .b .now) refl (rw (eq-eqb (length (c .before .before .before .args .b .now) % 2) 1 (c .before .if1 .left), lt-leb (length (c .before .before .before .args .b .now)) 65 (c .if2 .taken))))
+    let at-if1 = c .before in
+    rw (eq-eqb _ 1 (at-if1 .if1 .left), lt-leb (length (at-if1 .before .before .args .b .now)) 65 (c .if2 .taken))
 
 returns-3 : tie.Need-returns-3
-unfolding baseTags lengthFits item room there
+unfolding saidOf fault baseTags lengthFits item room there
 returns-3 c =
-    sym (too-many (sized (c .before .before .before .before .before .args .z)) 0x15 (c .before .before .before .before .before .args .b .now) refl (rw (eq-eqb (length (c .before .before .before .before .before .args .b .now) % 2) 1 (c .before .before .before .if1 .left), le-leb (length (c .before .before .before .before .before .args .b .now)) 65 (c .before .before .if2 .left))) (le-ltb (c .before .before .before .before .before .args .z .nodes) 512 (c .if3 .taken)))
+    let at-if2 = c .before .before in
+    let at-if1 = at-if2 .before in
+    rw (eq-eqb _ 1 (at-if1 .if1 .left), le-leb _ 65 (at-if2 .if2 .left), le-ltb _ 512 (c .if3 .taken))
 
 shared-slice-read-if4 : tie.Need-shared-slice-read-if4
 shared-slice-read-if4 c = search needs
 
 returns-4 : tie.Need-returns-4
-unfolding baseTags lengthFits item room there
+unfolding saidOf fault baseTags lengthFits item room there
 returns-4 c =
-    sym (not-there (sized (c .before .before .before .before .before .before .before .before .args .z)) 0x15 (c .before .before .before .before .before .before .before .before .args .b .now) refl (rw (eq-eqb (length (c .before .before .before .before .before .before .before .before .args .b .now) % 2) 1 (c .before .before .before .before .before .before .if1 .left), le-leb (length (c .before .before .before .before .before .before .before .before .args .b .now)) 65 (c .before .before .before .before .before .if2 .left))) (lt-ltb (c .before .before .before .before .before .before .before .before .args .z .nodes) 512 (c .before .before .before .if3 .left)) (rw (le-ltb (byte (c .before .before .before .before .before .before .before .before .args .b .now) 0) (c .before .before .before .before .before .before .before .before .args .z .variables) (c .if4 .taken))))
+    let at-if3 = c .before .before .before in
+    let at-if2 = at-if3 .before .before in
+    let at-if1 = at-if2 .before in
+    rw (
+      eq-eqb _ 1 (at-if1 .if1 .left),
+      le-leb _ 65 (at-if2 .if2 .left),
+      lt-ltb _ 512 (at-if3 .if3 .left),
+      le-ltb _ _ (c .if4 .taken),
+    )
 
 sub-all-below : tie.Need-sub-all-below
 sub-all-below c = search needs
@@ -47,15 +55,50 @@ part-all-below-end c = search needs
 all-below-requires : tie.Need-all-below-requires
 all-below-requires c κs = search needs
 
+-- Looked at byte by byte, the swaps' atoms are there as they are in pairs.
+swaps-looked : (c : tie.After-all-below)
+    → let at-if4 = c .before .before in
+    let at-if1 = at-if4 .before .before .before .before .before .before in
+    let a = at-if1 .before .before .args in
+    swapsThere (a .z .atoms) (swapsIn (drop 1 (a .b .now))) ≡ c .all-below .result
+swaps-looked c =
+    let at-if4 = c .before .before in
+    let at-if1 = at-if4 .before .before .before .before .before .before in
+    let a = at-if1 .before .before .args in
+    suspended (a .z .atoms) (a .b .now) (at-if1 .if1 .left)
+    ∙ (ap (below (a .z .atoms)) (sym (tail-part (a .b .now) 1)) ∙ sym (c .all-below .ensures))
+
 returns-5 : tie.Need-returns-5
-unfolding baseTags lengthFits item room there
+unfolding saidOf fault baseTags lengthFits item room there
 returns-5 c =
-    sym (sound (sized (c .before .before .before .before .before .before .before .before .before .before .before .args .z)) 0x15 (c .before .before .before .before .before .before .before .before .before .before .before .args .b .now) refl (rw (eq-eqb (length (c .before .before .before .before .before .before .before .before .before .before .before .args .b .now) % 2) 1 (c .before .before .before .before .before .before .before .before .before .if1 .left), le-leb (length (c .before .before .before .before .before .before .before .before .before .before .before .args .b .now)) 65 (c .before .before .before .before .before .before .before .before .if2 .left))) (lt-ltb (c .before .before .before .before .before .before .before .before .before .before .before .args .z .nodes) 512 (c .before .before .before .before .before .before .if3 .left)) (rw (lt-ltb (byte (c .before .before .before .before .before .before .before .before .before .before .before .args .b .now) 0) (c .before .before .before .before .before .before .before .before .before .before .before .args .z .variables) (c .before .before .before .if4 .left)) (suspended (c .before .before .before .before .before .before .before .before .before .before .before .args .z .atoms) (c .before .before .before .before .before .before .before .before .before .before .before .args .b .now) (c .before .before .before .before .before .before .before .before .before .if1 .left) ∙ (ap (below (c .before .before .before .before .before .before .before .before .before .before .before .args .z .atoms)) (sym (tail-part (c .before .before .before .before .before .before .before .before .before .before .before .args .b .now) 1)) ∙ (sym (c .before .all-below .ensures) ∙ c .if5 .taken)))))
+    let at-if4 = c .before .before .before in
+    let at-if3 = at-if4 .before .before .before in
+    let at-if2 = at-if3 .before .before in
+    let at-if1 = at-if2 .before in
+    rw (
+      eq-eqb _ 1 (at-if1 .if1 .left),
+      le-leb _ 65 (at-if2 .if2 .left),
+      lt-ltb _ 512 (at-if3 .if3 .left),
+      lt-ltb _ _ (at-if4 .if4 .left),
+      swaps-looked (c .before),
+      c .if5 .taken,
+    )
 
 returns-6 : tie.Need-returns-6
-unfolding baseTags lengthFits item room there
+unfolding saidOf fault baseTags lengthFits item room there
 returns-6 c =
-    sym (not-there (sized (c .before .before .before .before .before .before .before .before .before .before .before .args .z)) 0x15 (c .before .before .before .before .before .before .before .before .before .before .before .args .b .now) refl (rw (eq-eqb (length (c .before .before .before .before .before .before .before .before .before .before .before .args .b .now) % 2) 1 (c .before .before .before .before .before .before .before .before .before .if1 .left), le-leb (length (c .before .before .before .before .before .before .before .before .before .before .before .args .b .now)) 65 (c .before .before .before .before .before .before .before .before .if2 .left))) (lt-ltb (c .before .before .before .before .before .before .before .before .before .before .before .args .z .nodes) 512 (c .before .before .before .before .before .before .if3 .left)) (rw (lt-ltb (byte (c .before .before .before .before .before .before .before .before .before .before .before .args .b .now) 0) (c .before .before .before .before .before .before .before .before .before .before .before .args .z .variables) (c .before .before .before .if4 .left)) (suspended (c .before .before .before .before .before .before .before .before .before .before .before .args .z .atoms) (c .before .before .before .before .before .before .before .before .before .before .before .args .b .now) (c .before .before .before .before .before .before .before .before .before .if1 .left) ∙ (ap (below (c .before .before .before .before .before .before .before .before .before .before .before .args .z .atoms)) (sym (tail-part (c .before .before .before .before .before .before .before .before .before .before .before .args .b .now) 1)) ∙ (sym (c .before .all-below .ensures) ∙ c .if5 .left)))))
+    let at-if4 = c .before .before .before in
+    let at-if3 = at-if4 .before .before .before in
+    let at-if2 = at-if3 .before .before in
+    let at-if1 = at-if2 .before in
+    rw (
+      eq-eqb _ 1 (at-if1 .if1 .left),
+      le-leb _ 65 (at-if2 .if2 .left),
+      lt-ltb _ 512 (at-if3 .if3 .left),
+      lt-ltb _ _ (at-if4 .if4 .left),
+      swaps-looked (c .before),
+      c .if5 .left,
+    )
 
 pub suspension-spec : {M : Type 1} → statement M
 suspension-spec =

@@ -1,10 +1,7 @@
 -- `solve_with` meets its contract: the reader's refusals are given back, and a problem is solved.
 use borrow.Author.Needs.{needs}
-use mathlib.Core.Path.{sym, _∙_}
-use Rattle.problem.specs.Held.{problemOf}
-use Rattle.problem.specs.declared.Reading.the-variants.{TooLong, NoHead, Cut, UnknownTag, WrongLength, TooMany, NotThere}
+use Rattle.problem.proofs.Given.{read-into}
 use Rattle.solver.proofs.Reading.{solve-refused, solve-read}
-use Rattle.solver.proofs.Beginning.{begun, is-read}
 use Rattle.solver.proofs.entries.solve_with.Statement.{statement}
 use Rattle.solver.proofs.entries.solve_with.Tie as tie
 
@@ -36,36 +33,60 @@ enum-known-reading-6 : tie.Need-enum-known-reading-6
 enum-known-reading-6 c = search needs
 
 solve-read-requires : tie.Need-solve-read-requires
-solve-read-requires c κs = begun (c .before .before .before .before .before .before .before .before .before .before .before .before .before .before .before .before .before .before .before .before .before .before .before .before .read .ensures) (c .before .before .before .before .before .before .before .before .before .before .before .before .before .before .before .before .before .before .before .before .before .before .reading6 .given .1)
+solve-read-requires c κs =
+    let at-problem = c .before .before .before .before .before .before .before .before .before .before .before .before in
+    let at-read = at-problem .before .before in
+    read-into _ _ (at-read .read .ensures) (at-problem .reading6 .given .1)
 
 returns : tie.Need-returns
-returns c = solve-refused (c .before .before .before .before .before .before .before .before .before .args .input .now) TooLong (c .before .before .before .before .before .before .before .before .before .args .output .now) (sym (c .enum-told .given .1) ∙ c .before .before .read .ensures .the-answer) tt
+returns c =
+    let at-read = c .before .before in
+    solve-refused (at-read .read .ensures) (c .enum-told .given .1) tt
 
 returns-2 : tie.Need-returns-2
-returns-2 c = solve-refused (c .before .before .before .before .before .before .before .before .before .args .input .now) NoHead (c .before .before .before .before .before .before .before .before .before .args .output .now) (sym (c .enum-told2 .given .1) ∙ c .before .before .read .ensures .the-answer) tt
+returns-2 c =
+    let at-read = c .before .before in
+    solve-refused (at-read .read .ensures) (c .enum-told2 .given .1) tt
 
 returns-3 : tie.Need-returns-3
-returns-3 c = solve-refused (c .before .before .before .before .before .before .before .before .before .before .args .input .now) (Cut (c .before .reading .given .0 .0)) (c .before .before .before .before .before .before .before .before .before .before .args .output .now) (sym (c .before .reading .given .1) ∙ c .before .before .before .read .ensures .the-answer) tt
+returns-3 c =
+    let at-case = c .before in
+    let at-read = at-case .before .before in
+    solve-refused (at-read .read .ensures) (at-case .reading .given .1) tt
 
 returns-4 : tie.Need-returns-4
-returns-4 c = solve-refused (c .before .before .before .before .before .before .before .before .before .before .args .input .now) (UnknownTag (c .before .reading2 .given .0 .0)) (c .before .before .before .before .before .before .before .before .before .before .args .output .now) (sym (c .before .reading2 .given .1) ∙ c .before .before .before .read .ensures .the-answer) tt
+returns-4 c =
+    let at-case = c .before in
+    let at-read = at-case .before .before in
+    solve-refused (at-read .read .ensures) (at-case .reading2 .given .1) tt
 
 returns-5 : tie.Need-returns-5
-returns-5 c = solve-refused (c .before .before .before .before .before .before .before .before .before .before .args .input .now) (WrongLength (c .before .reading3 .given .0 .0)) (c .before .before .before .before .before .before .before .before .before .before .args .output .now) (sym (c .before .reading3 .given .1) ∙ c .before .before .before .read .ensures .the-answer) tt
+returns-5 c =
+    let at-case = c .before in
+    let at-read = at-case .before .before in
+    solve-refused (at-read .read .ensures) (at-case .reading3 .given .1) tt
 
 returns-6 : tie.Need-returns-6
-returns-6 c = solve-refused (c .before .before .before .before .before .before .before .before .before .before .args .input .now) (TooMany (c .before .reading4 .given .0 .0)) (c .before .before .before .before .before .before .before .before .before .before .args .output .now) (sym (c .before .reading4 .given .1) ∙ c .before .before .before .read .ensures .the-answer) tt
+returns-6 c =
+    let at-case = c .before in
+    let at-read = at-case .before .before in
+    solve-refused (at-read .read .ensures) (at-case .reading4 .given .1) tt
 
 returns-7 : tie.Need-returns-7
-returns-7 c = solve-refused (c .before .before .before .before .before .before .before .before .before .before .args .input .now) (NotThere (c .before .reading5 .given .0 .0)) (c .before .before .before .before .before .before .before .before .before .before .args .output .now) (sym (c .before .reading5 .given .1) ∙ c .before .before .before .read .ensures .the-answer) tt
+returns-7 c =
+    let at-case = c .before in
+    let at-read = at-case .before .before in
+    solve-refused (at-read .read .ensures) (at-case .reading5 .given .1) tt
 
 same-length : tie.Need-same-length
 same-length c = search needs
 
 returns-8 : tie.Need-returns-8
 returns-8 c =
-    c .before .before .solve-read .ensures
-    ∙ sym (solve-read (c .before .before .before .before .before .before .before .before .before .before .before .before .before .before .before .before .before .before .before .before .before .before .before .before .before .before .before .before .before .before .before .before .before .before .args .input .now) (problemOf (c .before .before .before .before .before .before .before .before .before .before .before .before .before .before .before .before .before .before .before .before .before .before .before .before .before .before .before .before .before .before .before .before .before .before .args .input .now)) (c .before .before .before .before .before .before .before .before .before .before .before .before .before .before .before .before .before .before .before .before .before .before .before .before .before .before .before .before .before .before .before .before .before .before .args .output .now) (is-read (c .before .before .before .before .before .before .before .before .before .before .before .before .before .before .before .before .before .before .before .before .before .before .before .before .before .before .before .read .ensures) (c .before .before .before .before .before .before .before .before .before .before .before .before .before .before .before .before .before .before .before .before .before .before .before .before .before .reading6 .given .1)))
+    let at-solved = c .before .before in
+    let at-problem = at-solved .before .before .before .before .before .before .before .before .before .before .before .before .before in
+    let at-read = at-problem .before .before in
+    solve-read (at-read .read .ensures) _ (at-problem .reading6 .given .1) (at-solved .solve-read .ensures)
 
 pub solve-with-spec : {M : Type 1} → statement M
 solve-with-spec =
