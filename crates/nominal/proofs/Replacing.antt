@@ -1,6 +1,7 @@
 -- One more binding: what [X := t] done after an idempotent substitution that leaves X as it is gives. It is idempotent again, satisfied by
 -- exactly the pairs that satisfied the old one and take X and t for equal, and allowed where X is not protected.
-use Prim.Native.Nat.{ℕ}
+use Prim.Native.Nat.{ℕ, suc, _+_}
+use native.Mathlib.Omega.{arith}
 use mathlib.Core.Path.{_≡_, refl, sym, _∙_}
 use mathlib.Core.Logic.{_≢_, _↔_, inl, inr}
 use mathlib.Core.List.{[], _++_, append-nil, append-cancel-left}
@@ -10,7 +11,7 @@ use Rattle.names.proofs.Equal.{by-eq}
 use Rattle.nominal.specs.Tree.{Tree, unit, atom, abstraction, pair, application, suspension, variable, permute, Occurs, Substitution, substitute}
 use Rattle.nominal.specs.Tree.{composed, replacing}
 use Rattle.nominal.specs.Figure2.{Environment, _⊢_≈_}
-use Rattle.nominal.specs.Solutions.{Satisfies}
+use Rattle.nominal.specs.Solutions.{Satisfies, protecting}
 use Rattle.nominal.proofs.Tree.{permute-nil, substitute-variable, substitute-composed, substitute-agree}
 use Rattle.nominal.proofs.Laws.{equal-reflexive, equal-symmetric, equal-transitive}
 use Rattle.nominal.proofs.Solutions.{satisfies-tree}
@@ -72,3 +73,11 @@ module _ (σ : Substitution) (X : ℕ) (t : Tree) where
       where
         at-X : Satisfies ∇ τ extended → ∇ ⊢ τ X ≈ substitute τ t
         at-X k = rw (free, permute-nil, replacing-same) at (k X)
+
+  -- What leaves protected variables as they are still does, once an unprotected one is replaced too.
+  pub extended-allowed : (isProtected : ℕ → Type 0) → (isProtected X → ⊥) → protecting isProtected .allowsSubstitution σ
+      → protecting isProtected .allowsSubstitution extended
+  extended-allowed isProtected unprotected a = (
+    (suc X + a .0 .0, λ Y l. extended-other Y (λ q. omega arith) (a .0 .1 Y (omega arith))),
+    λ Y p. extended-other Y (λ q. unprotected (rw q at p)) (a .1 Y p),
+  )

@@ -3,8 +3,6 @@ use Prim.Native.Nat.{_-_, _≤_}
 use native.Mathlib.Omega.{arith}
 use lib.ListN.{length}
 use borrow.Author.Needs.{needs}
-use Rattle.permutation.specs.Table.{ofSwaps}
-use Rattle.permutation.specs.Swaps.{swapsIn}
 use Rattle.permutation.specs.Store.{ofTable}
 use Rattle.permutation.proofs.Store.{stored, Passed, passed-none, passed-left, passed-right, passed-more, passed-all}
 use Rattle.permutation.proofs.of_swaps.Statement.{statement}
@@ -117,12 +115,7 @@ loop-again c =
     )
 
 returns : tie.Need-returns Inv-loop μ-loop
-returns c =
-    let in-loop = c .before in
-    let at-start = in-loop .before .before .before in
-    stored (in-loop .loop .r) (ofSwaps (at-start .args .n) (swapsIn (at-start .args .s .now)))
-    (passed-all (at-start .args .n) (at-start .args .s .now) (in-loop .loop .i)
-    (in-loop .loop .r .images) (in-loop .loop .inv .1) (omega arith))
+returns c = let end = c .before .loop in stored (end .r) _ (passed-all _ _ (end .i) _ (end .inv .1) (omega arith))
 
 pub of-swaps-spec : {M : Type 1} → statement M
 of-swaps-spec =
