@@ -14,7 +14,8 @@ use Rattle.answer.specs.declared.Given.{Given}
 use Rattle.answer.specs.Written.{Wrote, givenBack}
 use Rattle.answer.specs.Fields.{stepsField, bindingField}
 use Rattle.answer.proofs.Writing.{wrote-all}
-use Rattle.answer.proofs.Fields.{bindingBytes-none, bindingBytes-first, answer-fields, length-stepsField, length-bindingField, length-factBytes}
+use Rattle.run.proofs.Written.{length-factBytes}
+use Rattle.answer.proofs.Fields.{bindingBytes-none, bindingBytes-first, answer-fields, length-stepsField, length-bindingField}
 
 -- ---- the bindings' bytes
 

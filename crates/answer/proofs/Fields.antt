@@ -1,5 +1,5 @@
 -- The laws of an answer's fields: the definition's answer is made of them, how long each is, and the parts in which the code writes each.
-use Prim.Native.Nat.{ℕ, _+_, _*_, _/_, _%_, _<_}
+use Prim.Native.Nat.{ℕ, _+_, _/_, _%_, _<_}
 use native.Mathlib.Omega.{arith}
 use mathlib.Core.Path.{_≡_, refl, ap, ap₂}
 use mathlib.Core.List.{List, [], _∷_, _++_}
@@ -48,11 +48,6 @@ length-bindingField b = omega arith
 pub length-factField : (f : Fact) → length (factField f) ≡ 5
 unfolding factField fieldBytes bytes2
 length-factField f = refl
-
-pub length-factBytes : (fs : List Fact) → length (factBytes fs) ≡ 5 * length fs
-unfolding factBytes fieldBytes bytes2
-length-factBytes [] = refl
-length-factBytes (f ∷ fs) = omega (arith, length-factBytes fs)
 
 -- ---- the parts in which a field is written
 

@@ -15,11 +15,11 @@ use borrow.Author.Tests.{eq-eqb, ne-eqb}
 use Rattle.permutation.specs.declared.Permutation.{Permutation}
 use Rattle.permutation.specs.Table.{Table, image, tabulate}
 use Rattle.permutation.specs.Store.{table, ofTable}
-use Rattle.names.proofs.Equal.{by-eq}
-use Rattle.permutation.proofs.Table.{by-lt, image-out, table-extensional, length-tabulate, image-tabulate}
+use Rattle.names.proofs.Equal.{by-eq, by-lt}
+use Rattle.permutation.proofs.Table.{image-out, table-extensional, length-tabulate, image-tabulate}
 use Rattle.permutation.proofs.Store.{length-table, image-table-out}
 use Rattle.sets.specs.Bits.{member, inserted, among}
-use Rattle.sets.proofs.Bits.{member-empty, member-inserted, inserted-lt, count-empty, count-le, count-inserted, member-within}
+use Rattle.sets.proofs.Bits.{or-true, member-empty, member-inserted, inserted-lt, count-empty, count-le, count-inserted, member-within}
 use Rattle.rows.specs.Rows.{imagesIn, rowKept, rowHeld}
 use Rattle.rows.proofs.Rows.{imagesIn-kept, table-held}
 use Rattle.run.specs.Meaning.{Binding}
@@ -43,10 +43,6 @@ among-append X (Z ∷ l) Y = ap (λ (b : Bool). eqb X Z || b) (among-append X l 
 
 take-more : (order : List ℕ) (k X : ℕ) → k < length order → take (k + 1) (set order k X) ≡ take k order ++ (X ∷ [])
 take-more order k X h = rw add-one (take-suc-set order k X h)
-
-or-true : (b : Bool) → (b || true) ≡ true
-or-true true = refl
-or-true false = refl
 
 among-at : (l : List ℕ) (i : ℕ) → i < length l → among (getD l i 0) l ≡ true
 among-at [] i h = absurd (omega arith)

@@ -8,15 +8,16 @@ use mathlib.Core.Bool.{Bool, true, false, true≢false}
 use mathlib.Core.List.{List, [], _∷_, map, append-nil, List·Memᴰ}
 use mathlib.Core.Option.{none}
 use lib.ListN.{length}
+use Rattle.names.proofs.Equal.{by-lt}
 use Rattle.permutation.specs.Swaps.{Swaps, act, inverse, Disagree}
 use Rattle.permutation.specs.Table.{Table, image, inverted, disagreement, swapsOf}
-use Rattle.permutation.proofs.Table.{by-lt, image-out, mem-disagreement}
+use Rattle.permutation.proofs.Table.{image-out, mem-disagreement}
 use Rattle.nominal.specs.Tree.{Tree, suspension, variable, permute, Occurs, substitute}
 use Rattle.nominal.specs.Form.{form}
 use Rattle.nominal.specs.Solutions
 use Rattle.nominal.proofs.Tree.{permute-nil, substitute-permute}
 use Rattle.nominal.proofs.Steps.{form-substitute}
-use Rattle.problem.specs.Problem.{Form, unit-form, atom-form, abstraction-form, pair-form, application-form, suspension-form, Node, formAt}
+use Rattle.problem.specs.Problem.{Form, unit-form, atom-form, abstraction-form, pair-form, application-form, suspension-form, formAt}
 use Rattle.problem.specs.Readable.{Named}
 use Rattle.run.specs.Meaning.{Side, sideTree, Binding, meaning}
 use Rattle.run.specs.Run.{Subject, of-variable, of-side, Ground, valueOf, under, resolved, Refusal, clash, inside, protection, Step, refuses, goes-on, step}
@@ -24,6 +25,7 @@ use Rattle.run.specs.Answer.{subjectTree}
 use Rattle.nominal.specs.Same.{Same}
 use Rattle.run.proofs.Same.{same-reflexive, same-symmetric, same-transitive, same-permute, same-substitute, alike-inverse}
 use Rattle.run.proofs.Trees.{Permuting, Fits, act-permuting, tree-under-inverted, tree-underSwap, underSwap, Shows, top-shows, TopFits, top-fits}
+use Rattle.solutions.proofs.Step.{shows-form}
 use Rattle.run.proofs.Tops.{kind}
 use Rattle.run.proofs.Did.{NotOf, Did, step-did, two-units, same-atoms, same-abstractions, other-abstractions, two-pairs, same-symbols, one-variable}
 use Rattle.run.proofs.Did.{left-bound, right-bound, left-inside, right-inside, left-protected, right-protected, both-protected, different-forms}
@@ -60,15 +62,6 @@ DoneAs g bs s t (goes-on qs b d) = Simulates g bs s t qs b d
 
 unprotected : (b : Bool) → b ≡ false → b ≡ true → ⊥
 unprotected b e p = true≢false (sym p ∙ e)
-
--- A tree has the form that its top shows.
-shows-form : (nodes : List Node) (t : Tree) (w : Form Table Side) → Shows nodes t w → form t ≡ kind w
-shows-form nodes t unit-form h = rw h
-shows-form nodes t (atom-form a) h = rw h
-shows-form nodes t (abstraction-form a s) h = rw h
-shows-form nodes t (pair-form l r) h = rw h
-shows-form nodes t (application-form f s) h = rw h
-shows-form nodes t (suspension-form P X) h = rw (h .1)
 
 -- Tables that disagree are lists of swaps that disagree.
 disagreeing : (atoms : ℕ) (P Q : Table) (π ρ : Swaps) → Permuting atoms P → Permuting atoms Q → ((a : ℕ) → act π a ≡ image P a)

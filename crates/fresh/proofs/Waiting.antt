@@ -8,8 +8,7 @@ use mathlib.Core.List.{List}
 use lib.ListN.{getD}
 use Rattle.sets.specs.Bits.{member, union, difference, lowest}
 use Rattle.sets.proofs.Bits.{member-union, member-union-right, member-difference, sets-extensional, difference-le, union-lt, lowest-member}
-use Rattle.names.proofs.Equal.{by-eq}
-use Rattle.permutation.proofs.Table.{by-lt}
+use Rattle.names.proofs.Equal.{by-eq, by-lt}
 use Rattle.problem.specs.Problem.{Problem}
 use Rattle.demands.specs.Demands.{onVariables}
 use Rattle.fresh.specs.Marks.{doneIn, newAt, NextBetween, Next, Passed}

@@ -20,7 +20,7 @@ use Rattle.layout.specs.Parts as parts
 
 -- ---- a field
 
-two-bytes : (n : ℕ) → n < 65536 → n / 256 % 256 * 256 + n % 256 ≡ n
+pub two-bytes : (n : ℕ) → n < 65536 → n / 256 % 256 * 256 + n % 256 ≡ n
 two-bytes n h = omega arith
 
 pub field-front : (tag : ℕ) (body rest : List ℕ) → length body < 65536 → front (fieldBytes tag body ++ rest) ≡ whole tag body rest

@@ -4,7 +4,7 @@ use mathlib.Core.Path.{_≡_, sym, _∙_}
 use mathlib.Core.Bool.{Bool, true}
 use mathlib.Core.List.{List}
 use lib.ListN.{length, getD}
-use Rattle.permutation.proofs.Table.{by-lt}
+use Rattle.names.proofs.Equal.{by-lt}
 use Rattle.sets.specs.Bits.{member}
 use Rattle.sets.proofs.Bits.{by-test, sets-extensional}
 use Rattle.problem.specs.Problem.{Node}

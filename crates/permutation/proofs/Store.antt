@@ -19,9 +19,9 @@ use Rattle.permutation.specs.Store.{table, padded, ofTable, disagreeAt}
 use Rattle.permutation.specs.declared.Permutation.{Permutation}
 use Rattle.sets.specs.Bits.{member, inserted, membersFrom, members, ofList, among}
 use Rattle.sets.proofs.Bits.{member-past, ofList-append, ofList-lt, member-ofList}
-use Rattle.names.proofs.Equal.{by-eq}
+use Rattle.names.proofs.Equal.{by-eq, by-lt}
 use Rattle.permutation.proofs.Swaps.{act-append, swapped-left, swapped-right, swapped-other}
-use Rattle.permutation.proofs.Table.{by-lt, image-out, mem-disagreement, table-extensional, getD-default, image-map, image-tabulate, length-from}
+use Rattle.permutation.proofs.Table.{image-out, mem-disagreement, table-extensional, getD-default, image-map, image-tabulate, length-from}
 use Rattle.permutation.proofs.Table.{length-tabulate, length-after, length-inverted, length-swappedAfter, length-ofSwaps, image-ofSwaps}
 use Rattle.permutation.proofs.Table.{ofSwaps-none}
 

@@ -2,7 +2,6 @@
 use Prim.Native.Nat.{ℕ, zero, suc, _+_, _≤_, _<_}
 use native.Mathlib.Nat.{add-zero, zero-add}
 use native.Mathlib.Omega.{arith}
-use native.Mathlib.Decide.{decLe}
 use mathlib.Core.Path.{_≡_, refl, sym, _∙_, ap}
 use mathlib.Core.Logic.{_≢_, _↔_}
 use mathlib.Core.Bool.{Bool, true, false, cond, not, true≢false}
@@ -14,17 +13,9 @@ use borrow.Author.Tests.{eq-eqb, ne-eqb, eqb-false, not-true}
 use Rattle.permutation.specs.Swaps.{Swaps, swapped, act, inverse, Disagree, Alike, Within}
 use Rattle.permutation.specs.Table.{Table, image, from, upto, tabulate, identity, after, placeFrom, place, inverted, ofSwaps, swappedAfter, kept}
 use Rattle.permutation.specs.Table.{disagreement, Permutes, Unwound, before, unwind, cycles, swapsOf}
-use Rattle.names.proofs.Equal.{by-eq}
+use Rattle.names.proofs.Equal.{by-eq, by-lt}
 use Rattle.permutation.proofs.Swaps.{swapped-right, swapped-other, swapped-twice, swapped-within, act-append, act-inverse, act-injective, within}
 use Rattle.permutation.proofs.Swaps.{outside, within-append, within-inverse}
-
--- Split on whether an atom has a place.
-pub by-lt : (a n : ℕ) {R : Type 0} → (a < n → R) → (n ≤ a → R) → R
-by-lt a n {R} f g = go (decLe (suc a) n)
-  where
-    go : Dec (suc a ≤ n) → R
-    go (yes h) = f h
-    go (no h) = g (omega arith)
 
 -- ---- images
 

@@ -1,5 +1,5 @@
 -- The lines of the answer's bytes are the lines of the answer: the accepted line, a line for each binding, a line for each fact.
-use Prim.Native.Nat.{ℕ, _+_, _*_, _/_, _%_, _≤_, _<_}
+use Prim.Native.Nat.{ℕ, _+_, _≤_, _<_}
 use native.Mathlib.Omega.{arith}
 use mathlib.Core.Path.{_≡_, refl, ap, _∙_}
 use mathlib.Core.Logic.{_≢_}
@@ -12,13 +12,10 @@ use Rattle.field.specs.Field.{front, long, bytes2, bytes4, fieldBytes}
 use Rattle.run.specs.Meaning.{Binding, Fact}
 use Rattle.run.specs.Answer.{bindingBytes, factBytes, answerBytes, Verdict, accepted, refusal, given, written}
 use Rattle.layout.specs.Parts.{partFits, part}
-use Rattle.layout.proofs.Back.{field-front}
+use Rattle.layout.proofs.Back.{two-bytes, field-front}
 use Rattle.printer.specs.Lines.{fieldLine, answerLines, solverLines, acceptedLine, bindLine, freshLine}
 use Rattle.printer.specs.Printed.{bindLines, freshLines, verdictLines, SmallBindings}
 use Rattle.printer.proofs.Walking.{lines-more, lines-cut}
-
-two-bytes : (n : ℕ) → n < 65536 → n / 256 % 256 * 256 + n % 256 ≡ n
-two-bytes n h = omega arith
 
 field-lines : (tag : ℕ) (body rest : List ℕ) → length body < 65536 → partFits tag (length body) ≡ true
     → answerLines (fieldBytes tag body ++ rest) ≡ fieldLine tag body ++ answerLines rest

@@ -1,7 +1,7 @@
 -- How long an answer is: 7 bytes for the steps, at most 38 for a binding, 5 for a fact.
 use Prim.Native.Nat.{ℕ, suc, _+_, _*_, _≤_}
 use native.Mathlib.Omega.{arith}
-use mathlib.Core.Path.{_≡_, refl}
+use mathlib.Core.Path.{_≡_}
 use mathlib.Core.Bool.{Bool, true, false, cond}
 use mathlib.Core.List.{List, [], _∷_}
 use lib.ListN.{length, length-append, length-map}
@@ -10,8 +10,9 @@ use Rattle.permutation.proofs.Table.{length-from}
 use Rattle.nominal.specs.Solutions.{Every}
 use Rattle.field.specs.Field.{bytes2, bytes4, fieldBytes}
 use Rattle.problem.specs.Problem.{Problem}
+use Rattle.run.proofs.Written.{length-factBytes}
 use Rattle.run.specs.Meaning.{Binding, Fact}
-use Rattle.run.specs.Answer.{hasFact, factsAmong, allFacts, facts, bindingBytes, factBytes, answerBytes}
+use Rattle.run.specs.Answer.{hasFact, factsAmong, allFacts, facts, bindingBytes, answerBytes}
 
 length-field : (tag : ℕ) (body : List ℕ) → length (fieldBytes tag body) ≡ 3 + length body
 unfolding fieldBytes bytes2
@@ -26,15 +27,10 @@ unfolding bindingBytes bytes2
 length-bindings [] n = omega arith
 length-bindings (b ∷ bs) n = simp (length-append, length-field) (omega (arith, length-bindings bs (n .1), n .0))
 
-length-facts : (fs : List Fact) → length (factBytes fs) ≡ 5 * length fs
-unfolding factBytes
-length-facts [] = refl
-length-facts (f ∷ fs) = simp (length-append, length-field) (omega (arith, length-facts fs))
-
 pub answer-short : (steps : ℕ) (bs : List Binding) (fs : List Fact) → Every (Narrow 32) bs → length bs ≤ 64 → length fs ≤ 2048
     → length (answerBytes steps bs fs) ≤ 12679
 unfolding answerBytes bytes4 bytes2
-answer-short steps bs fs n b f = simp (length-append, length-field) (omega (arith, length-bindings bs n, length-facts fs))
+answer-short steps bs fs n b f = simp (length-append, length-field) (omega (arith, length-bindings bs n, length-factBytes fs))
 
 -- ---- how many facts there are
 

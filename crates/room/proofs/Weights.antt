@@ -6,9 +6,9 @@ use mathlib.Core.Path.{_≡_, refl, sym, _∙_, ap}
 use mathlib.Core.Option.{Option, none, some}
 use mathlib.Core.List.{List}
 use lib.ListN.{length, List·getD-eq-default}
+use Rattle.names.proofs.Equal.{by-lt}
 use Rattle.permutation.specs.Swaps.{Swaps}
 use Rattle.permutation.specs.Table.{Table}
-use Rattle.permutation.proofs.Table.{by-lt}
 use Rattle.nominal.specs.Tree.{Tree, unit, atom, abstraction, pair, application, suspension, permute, Substitution, substitute}
 use Rattle.problem.specs.Problem.{Form, unit-form, atom-form, abstraction-form, pair-form, application-form, suspension-form, Node, formAt}
 use Rattle.problem.specs.Readable.{Named}

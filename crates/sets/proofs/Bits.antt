@@ -3,7 +3,6 @@
 use Prim.Native.Nat.{ℕ, zero, suc, _+_, _-_, _*_, _/_, _%_, _^_, _≤_, _<_, min, max}
 use native.Mathlib.Nat.{pow-suc, div-div-eq-div-mul, mul-comm, div-one, one-mul, div-eq-of-lt, add-zero, add-suc, zero-add, suc-add}
 use native.Mathlib.Omega.{arith}
-use native.Mathlib.Decide.{decLe}
 use mathlib.Core.Path.{_≡_, refl, sym, _∙_, ap, ap₂}
 use mathlib.Core.Logic.{_≢_, _⊎_, inl, inr}
 use mathlib.Core.Bool.{Bool, true, false, not, _&&_, _||_}
@@ -14,18 +13,11 @@ use lib.Bits.{bitAnd, bitOr, and-step, or-step, and-shr, or-shr, and-le-l, or-lt
 use lib.Count.{ones, trailingZeros, ones-step, ones-le, trailing-le}
 use lib.Dec.{eqb, ltb}
 use borrow.Author.Tests.{eq-eqb, ne-eqb, eqb-true, eqb-false, lt-ltb, le-ltb}
-use Rattle.names.proofs.Equal.{by-eq}
+use Rattle.names.proofs.Equal.{by-eq, by-lt}
 use Rattle.sets.specs.Bits.{bit, member, union, intersection, difference, inserted, removed, allBelow, lowest, count, membersFrom, members, setOf, ofList}
 use Rattle.sets.specs.Bits.{among}
 
 -- Split on whether a number is below another, and on whether two numbers are equal.
-by-lt : (a n : ℕ) {R : Type 0} → (a < n → R) → (n ≤ a → R) → R
-by-lt a n {R} f g = go (decLe (suc a) n)
-  where
-    go : Dec (suc a ≤ n) → R
-    go (yes h) = f h
-    go (no h) = g (omega arith)
-
 -- ---- bits
 
 pub bit-zero : (w : ℕ) → bit w 0 ≡ w % 2
@@ -158,7 +150,7 @@ or-swap true false c = refl
 or-swap false true c = refl
 or-swap false false c = refl
 
-or-true : (b : Bool) → (b || true) ≡ true
+pub or-true : (b : Bool) → (b || true) ≡ true
 or-true true = refl
 or-true false = refl
 

@@ -8,9 +8,10 @@ use mathlib.Core.Bool.{true}
 use mathlib.Core.List.{List, [], _∷_, map, List·Memᴰ, List·Memᴰ·head, List·Memᴰ·tail}
 use mathlib.Core.Option.{none}
 use lib.ListN.{length}
+use Rattle.names.proofs.Equal.{by-lt}
 use Rattle.permutation.specs.Swaps.{Swaps, act, inverse, Disagree}
 use Rattle.permutation.specs.Table.{Table, image, inverted, disagreement, swapsOf}
-use Rattle.permutation.proofs.Table.{by-lt, image-out, mem-disagreement}
+use Rattle.permutation.proofs.Table.{image-out, mem-disagreement}
 use Rattle.nominal.specs.Tree.{Tree, suspension, variable, permute, Occurs, Substitution, substitute}
 use Rattle.nominal.specs.Form.{form}
 use Rattle.nominal.specs.Figure2.{Environment, ≈-unit, ≈-atom}

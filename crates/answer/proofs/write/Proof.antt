@@ -10,7 +10,8 @@ use Rattle.run.specs.Meaning.{Binding, Fact}
 use Rattle.run.specs.Answer.{bindingBytes, answerBytes}
 use Rattle.answer.specs.Facts.{factsIn}
 use Rattle.answer.proofs.Writing.{wrote-length, wrote-same, _then_}
-use Rattle.answer.proofs.Fields.{answer-fields, length-stepsField, length-factBytes}
+use Rattle.run.proofs.Written.{length-factBytes}
+use Rattle.answer.proofs.Fields.{answer-fields, length-stepsField}
 use Rattle.answer.proofs.Facts.{few-facts}
 use Rattle.answer.proofs.Answer.{bindings-few, length-bindings, length-answer, given-written, given-short}
 use borrow.Author.Needs.{needs}
