@@ -30,15 +30,24 @@ def found(pattern, text, what):
     return match
 
 
+def constants_of(text, known):
+    """The constants that a file declares, with those that it may name: each is a number, or a sum of constants."""
+    values = dict(known)
+    for name, sum_of in re.findall(r"^(?:pub )?const (\w+): usize = ([\w +]+);", text, re.M):
+        values[name] = sum(int(values.get(word, word)) for word in sum_of.split(" + "))
+    return values
+
+
 @functools.lru_cache(maxsize=None)
 def declared():
     """The array types that the crates declare, by name, with each constant's value in its place."""
     types = {}
+    limits = constants_of(text_of("crates/names/src/lib.rt"), {})
     for name in sorted(glob.glob("crates/*/src/**/*.rt", recursive=True)):
         text = text_of(name)
-        constants = dict(re.findall(r"^(?:pub )?const (\w+): usize = (\d+);", text, re.M))
+        constants = constants_of(text, limits)
         for kind, array in re.findall(r"^pub type (\w+) = (\[.*\]);", text, re.M):
-            array = re.sub(r"\b[A-Z]+\b", lambda word: constants[word.group()], array)
+            array = re.sub(r"\b[A-Z_]+\b", lambda word: str(constants[word.group()]), array)
             if types.setdefault(kind, array) != array:
                 raise SystemExit("signatures.py: %s is declared twice" % kind)
     return types
@@ -136,11 +145,9 @@ def compare_tables(comparison, header, tables):
 
 
 def compare_numbers(comparison):
-    """The enum's names and numbers against the verdicts and judgements of the crate `numbers`."""
+    """The enum's names and numbers against those of the crate `numbers`."""
     crate = text_of("crates/numbers/src/lib.rt")
-    expected = {}
-    for name, number in re.findall(r"(?:Verdict|Judgement)::(\w+)(?:\(\w\))? => told\((\d+),", crate):
-        expected["CHEESETRESTLE" + re.sub(r"([A-Z])", r"_\1", name).upper()] = int(number)
+    expected = {"CHEESETRESTLE_" + name: int(number) for name, number in re.findall(r"pub const (\w+): u8 = (\d+);", crate)}
     header = plain(text_of("include/cheesetrestle_numbers.h"))
     actual = {name: int(number) for name, number in re.findall(r"(CHEESETRESTLE_\w+) = (\d+)", header)}
     actual.pop("CHEESETRESTLE_NO_ROOM", None)

@@ -10,8 +10,9 @@ use Rattle.bindings.specs.Bindings.{Bindings, orderIn, variableAt, bindingAt, b
 use Rattle.bindings.proofs.Bindings.{keeps-few, length-imagesOf, length-bindingsOf, bindingsOf-at}
 use Rattle.run.specs.Meaning.{Fact}
 use Rattle.run.specs.Answer.{bindingBytes, factBytes, answerBytes, written}
-use Rattle.answer.specs.declared.Given.{Given}
-use Rattle.answer.specs.Written.{Wrote, givenBack}
+use Rattle.numbers.specs.declared.Given.{Given}
+use Rattle.numbers.specs.Numbers.{resultOf}
+use Rattle.answer.specs.Written.{Wrote}
 use Rattle.answer.specs.Fields.{stepsField, bindingField}
 use Rattle.answer.proofs.Writing.{wrote-all}
 use Rattle.run.proofs.Written.{length-factBytes}
@@ -68,10 +69,10 @@ module _ (A : ℕ) (t : Bindings) (k bound : ℕ) (h : Keeps (t .made) k bound) 
 -- ---- what is given back
 
 pub given-written : (g : Given) (answer d e : List ℕ) (r : ℕ) → g .number ≡ 0 → g .place ≡ length answer → Wrote d 0 answer r e
-    → length answer ≤ length d → givenBack g e ≡ written answer d
-unfolding givenBack written
+    → length answer ≤ length d → resultOf g e ≡ written answer d
+unfolding written
 given-written g answer d e r n p w h = rw (le-leb (length answer) (length d) h, n, p, wrote-all w h)
 
-pub given-short : (g : Given) (answer d : List ℕ) → g .number ≡ 13 → g .place ≡ length answer → length d < length answer → givenBack g d ≡ written answer d
-unfolding givenBack written
+pub given-short : (g : Given) (answer d : List ℕ) → g .number ≡ 13 → g .place ≡ length answer → length d < length answer → resultOf g d ≡ written answer d
+unfolding written
 given-short g answer d n p h = rw (lt-leb (length answer) (length d) h, n, p)

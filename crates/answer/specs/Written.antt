@@ -4,14 +4,8 @@ use mathlib.Core.Path.{_≡_}
 use mathlib.Core.List.{List}
 use lib.ListN.{length}
 use lib.Seq.{sets}
-use Rattle.run.specs.Answer.{Result}
-use Rattle.answer.specs.declared.Given.{Given}
 
 -- A writer of s was lent d with the index `at`, answered r and left e: s stands in it from `at` on, all else is as it was, and r is where s ends.
 pub record Wrote (d : List ℕ) (at : ℕ) (s : List ℕ) (r : ℕ) (e : List ℕ) : Type 0 where
   pub ends : r ≡ at + length s
   pub holds : e ≡ sets d at s
-
--- What is given back, with the lent output's final content.
-unfoldable pub givenBack : Given → List ℕ → Result
-givenBack g output = record { number = g .number; place = g .place; output = output }

@@ -6,10 +6,11 @@ ghost use mathlib.Core.List.{[], _∷_};
 ghost use Prim.Native.Nat.{ℕ, _+_, _≤_, _<_};
 ghost use lib.ListN.{length};
 ghost use Rattle.field.specs.Field.{bytes2};
-ghost use Rattle.bindings.specs.Bindings.{tables, imagesOf, bindingAt, bindingsOf, Keeps};
+ghost use Rattle.bindings.specs.Bindings.{bindingTables, imagesOf, bindingAt, bindingsOf, Keeps};
 ghost use Rattle.demands.specs.Demands.{onVariables};
 ghost use Rattle.run.specs.Answer.{bindingBytes, factBytes, answerBytes, written};
-ghost use Rattle.answer.specs.Written.{Wrote, givenBack};
+ghost use Rattle.numbers.specs.Numbers.{resultOf};
+ghost use Rattle.answer.specs.Written.{Wrote};
 ghost use Rattle.answer.specs.Fields.{stepsField, bindingField, factField};
 ghost use Rattle.answer.specs.Facts.{factSet, factsIn, factBytesOf};
 use bindings::Made;
@@ -17,14 +18,11 @@ use bindings::Values;
 use demands::Asked;
 use names::Atom;
 use names::Variable;
+use numbers::ACCEPTED;
+use numbers::Given;
+use numbers::TOO_SHORT;
 use sets::AtomSet;
 use sets::VariableSet;
-
-// The number given back and its place.
-pub struct Given {
-    pub number: u8,
-    pub place: usize,
-}
 
 // How long the fields of an answer are (specs/Fields.antt): that of the steps, that of a binding before its images, that of a fact.
 const STEPS: usize = 7;
@@ -90,7 +88,7 @@ fn put_binding(
     n: usize,
 ) -> usize
     requires { ⌜ (n ≤ 32) × (x .0 < 64) × (at + (6 + n) ≤ length (now output)) ⌝ }
-    ensures { λ r. ⌜ Wrote (now (output .entry)) at (bindingField (bindingAt n (tables (now (made .entry)) (now (values .entry))) (x .0)))
+    ensures { λ r. ⌜ Wrote (now (output .entry)) at (bindingField (bindingAt n (bindingTables (now (made .entry)) (now (values .entry))) (x .0)))
         r (now (output .exit)) ⌝ }
 {
     let node = bindings::node_of(made, x);
@@ -109,8 +107,8 @@ fn put_bindings(
     atoms: usize,
 ) -> usize
     requires { ⌜ ((bound : ℕ) × Keeps (now made) k bound) × (atoms ≤ 32)
-        × (at + length (bindingBytes (bindingsOf atoms (tables (now made) (now values)) k)) ≤ length (now output)) ⌝ }
-    ensures { λ r. ⌜ Wrote (now (output .entry)) at (bindingBytes (bindingsOf atoms (tables (now (made .entry)) (now (values .entry))) k))
+        × (at + length (bindingBytes (bindingsOf atoms (bindingTables (now made) (now values)) k)) ≤ length (now output)) ⌝ }
+    ensures { λ r. ⌜ Wrote (now (output .entry)) at (bindingBytes (bindingsOf atoms (bindingTables (now (made .entry)) (now (values .entry))) k))
         r (now (output .exit)) ⌝ }
 {
     let mut end = at;
@@ -146,46 +144,48 @@ fn put_facts_of(output: &mut [u8], at: usize, atoms: AtomSet, x: Variable) -> us
 }
 
 // The atoms that are facts of the variable x.
-fn fact_set(asked: &[u32], bound: VariableSet, x: usize, atoms: usize) -> AtomSet
-    requires { ⌜ (x < 64) × (64 ≤ length (now asked)) × (atoms ≤ 32) ⌝ }
-    ensures { λ r. ⌜ r .0 ≡ factSet atoms (bound .0) (now (asked .entry)) x ⌝ }
+fn fact_set(asked: &Asked, bound: VariableSet, x: Variable, atoms: usize) -> AtomSet
+    requires { ⌜ atoms ≤ 32 ⌝ }
+    ensures { λ r. ⌜ r .0 ≡ factSet atoms (bound .0) (onVariables (now (asked .entry))) (x .0) ⌝ }
 {
-    if bound.has(Variable(x as u8)) {
+    if bound.has(x) {
         return AtomSet::empty();
     }
-    AtomSet::below(atoms as u8).intersection(AtomSet(asked[x]))
+    AtomSet::below(atoms as u8).intersection(demands::of_variable(asked, x))
 }
 
 fn put_facts(
     output: &mut [u8],
     at: usize,
-    asked: &[u32],
+    asked: &Asked,
     bound: VariableSet,
     atoms: usize,
     variables: usize,
 ) -> usize
-    requires { ⌜ (variables ≤ 64) × (64 ≤ length (now asked)) × (atoms ≤ 32)
-        × (at + length (factBytes (factsIn atoms variables (bound .0) (now asked))) ≤ length (now output)) ⌝ }
-    ensures { λ r. ⌜ Wrote (now (output .entry)) at (factBytes (factsIn atoms variables (bound .0) (now (asked .entry)))) r (now (output .exit)) ⌝ }
+    requires { ⌜ (variables ≤ 64) × (atoms ≤ 32)
+        × (at + length (factBytes (factsIn atoms variables (bound .0) (onVariables (now asked)))) ≤ length (now output)) ⌝ }
+    ensures { λ r. ⌜ Wrote (now (output .entry)) at (factBytes (factsIn atoms variables (bound .0) (onVariables (now (asked .entry)))))
+        r (now (output .exit)) ⌝ }
 {
     let mut end = at;
     let mut x: usize = 0;
     while x < variables {
-        let facts = fact_set(asked, bound, x, atoms);
-        end = put_facts_of(output, end, facts, Variable(x as u8));
+        let variable = Variable(x as u8);
+        let facts = fact_set(asked, bound, variable, atoms);
+        end = put_facts_of(output, end, facts, variable);
         x += 1;
     }
     end
 }
 
-fn count_facts(asked: &[u32], bound: VariableSet, atoms: usize, variables: usize) -> usize
-    requires { ⌜ (variables ≤ 64) × (64 ≤ length (now asked)) × (atoms ≤ 32) ⌝ }
-    ensures { λ r. ⌜ r ≡ length (factsIn atoms variables (bound .0) (now (asked .entry))) ⌝ }
+fn count_facts(asked: &Asked, bound: VariableSet, atoms: usize, variables: usize) -> usize
+    requires { ⌜ (variables ≤ 64) × (atoms ≤ 32) ⌝ }
+    ensures { λ r. ⌜ r ≡ length (factsIn atoms variables (bound .0) (onVariables (now (asked .entry)))) ⌝ }
 {
     let mut n: usize = 0;
     let mut x: usize = 0;
     while x < variables {
-        let facts = fact_set(asked, bound, x, atoms);
+        let facts = fact_set(asked, bound, Variable(x as u8), atoms);
         n += u32::count_ones(facts.0) as usize;
         x += 1;
     }
@@ -206,30 +206,23 @@ pub fn write(
     variables: usize,
 ) -> Given
     requires { ⌜ Keeps (now made) k (bound .0) × (atoms ≤ 32) × (variables ≤ 64) ⌝ }
-    ensures { λ r. ⌜ givenBack r (now (output .exit)) ≡ written
-        (answerBytes steps (bindingsOf atoms (tables (now (made .entry)) (now (values .entry))) k)
+    ensures { λ r. ⌜ resultOf r (now (output .exit)) ≡ written
+        (answerBytes steps (bindingsOf atoms (bindingTables (now (made .entry)) (now (values .entry))) k)
         (factsIn atoms variables (bound .0) (onVariables (now (asked .entry)))))
         (now (output .entry)) ⌝ }
 {
-    let facts = count_facts(&asked[demands::VARIABLES], bound, atoms, variables);
+    let facts = count_facts(asked, bound, atoms, variables);
     let wanted = STEPS + k * (BINDING + atoms) + FACT * facts;
     if output.len() < wanted {
         return Given {
-            number: 13,
+            number: TOO_SHORT,
             place: wanted,
         };
     }
     let a = put_steps(output, 0, steps);
     let b = put_bindings(output, a, made, values, k, atoms);
     Given {
-        number: 0,
-        place: put_facts(
-            output,
-            b,
-            &asked[demands::VARIABLES],
-            bound,
-            atoms,
-            variables,
-        ),
+        number: ACCEPTED,
+        place: put_facts(output, b, asked, bound, atoms, variables),
     }
 }

@@ -25,7 +25,7 @@ use Rattle.run.proofs.States.{DemandFits, groundWith}
 use Rattle.fresh.specs.Pairs.{Pair, of-node, of-variable as for-variable, AskedAs, Asks}
 use Rattle.fresh.specs.Marks.{Demanded, atomOf}
 use Rattle.fresh.proofs.Asked.{asked-node, asked-variable, asked-side, asks-append, asks-same, asks-map}
-use Rattle.demands.specs.Demands.{Sheet, onNodes, onVariables, atomsAt, ofNode, ofVariable, first, Told, Raised}
+use Rattle.demands.specs.Demands.{Sheet, onNodes, onVariables, atomsAt, ofNode, ofVariable, firstRaised, PlaceTells, Raised}
 use Rattle.demands.proofs.Demands.{inverted-lt}
 use Rattle.asked.specs.Added.{asksFresh, FreshnessAdded, AssumptionsAdded, Words}
 
@@ -47,25 +47,25 @@ either true y e = inl refl
 either false y e = inr e
 
 -- A demand that passes a test is found, and what is found passes it.
-found : (f : ℕ → Subject → Bool) (ds : List Demand) (x : Demand) → List·Memᴰ x ds → f (x .atom) (x .subject) ≡ true → (e : ℕ) × (first f ds ≡ some e)
+found : (f : ℕ → Subject → Bool) (ds : List Demand) (x : Demand) → List·Memᴰ x ds → f (x .atom) (x .subject) ≡ true → (e : ℕ) × (firstRaised f ds ≡ some e)
 found f (d ∷ ds) x (List·Memᴰ·head e) t = (d .equation, rw (sym (ap (λ (y : Demand). f (y .atom) (y .subject)) e) ∙ t))
 found f (d ∷ ds) x (List·Memᴰ·tail m) t =
     let (e, q) = found f ds x m t in
     by-test (f (d .atom) (d .subject)) (λ y. (d .equation, rw y)) (λ n. (e, rw n q))
 
-find : (f : ℕ → Subject → Bool) (ds : List Demand) (e : ℕ) → first f ds ≡ some e → (x : Demand) × List·Memᴰ x ds × (f (x .atom) (x .subject) ≡ true)
+find : (f : ℕ → Subject → Bool) (ds : List Demand) (e : ℕ) → firstRaised f ds ≡ some e → (x : Demand) × List·Memᴰ x ds × (f (x .atom) (x .subject) ≡ true)
 find f [] e q = absurd (let z : _≡_ {A = ℕ} 0 1 = cc in omega arith)
 find f (d ∷ ds) e q = further (find f ds e) (f (d .atom) (d .subject)) refl q
   where
-    further : (first f ds ≡ some e → (x : Demand) × List·Memᴰ x ds × (f (x .atom) (x .subject) ≡ true)) → (c : Bool) → f (d .atom) (d .subject) ≡ c
-        → cond c (some (d .equation)) (first f ds) ≡ some e → (x : Demand) × List·Memᴰ x (d ∷ ds) × (f (x .atom) (x .subject) ≡ true)
+    further : (firstRaised f ds ≡ some e → (x : Demand) × List·Memᴰ x ds × (f (x .atom) (x .subject) ≡ true)) → (c : Bool) → f (d .atom) (d .subject) ≡ c
+        → cond c (some (d .equation)) (firstRaised f ds) ≡ some e → (x : Demand) × List·Memᴰ x (d ∷ ds) × (f (x .atom) (x .subject) ≡ true)
     further r true y q = (d, List·Memᴰ·head refl, y)
     further r false y q = let (x, m, t) = r q in (x, List·Memᴰ·tail m, t)
 
-told-true : (o : Option ℕ) (m : Bool) (k e : ℕ) → Told o m k → o ≡ some e → m ≡ true
+told-true : (o : Option ℕ) (m : Bool) (k e : ℕ) → PlaceTells o m k → o ≡ some e → m ≡ true
 told-true o m k e t q = (rw q at t) .0
 
-told-some : (o : Option ℕ) (m : Bool) (k : ℕ) → Told o m k → m ≡ true → (e : ℕ) × (o ≡ some e)
+told-some : (o : Option ℕ) (m : Bool) (k : ℕ) → PlaceTells o m k → m ≡ true → (e : ℕ) × (o ≡ some e)
 told-some none m k t h = never (sym t ∙ h)
 told-some (some e) m k t h = (e, refl)
 
@@ -117,24 +117,24 @@ module _ (p : Problem) (r : Readable p) (isProtected : ℕ → Bool) where
     into k a (of-variable X) m f =
         let small : a < 32 = omega (arith, f .0, r .few-atoms) in
         let (e, q) = found (ofVariable X a) ds (record { equation = k; atom = a; subject = of-variable X }) m (rw (eq-eqb X X refl, eq-eqb a a refl)) in
-        (f .1, told-true (first (ofVariable X a) ds) (member (atomsAt t 1 X) a) _ e (h .ofVariables X a (f .1) small) q)
+        (f .1, told-true (firstRaised (ofVariable X a) ds) (member (atomsAt t 1 X) a) _ e (h .ofVariables X a (f .1) small) q)
     into k a (of-side s) m f =
         let b : ℕ = image (inverted (s .images)) a in
         let n : ℕ = s .node in
         let small : b < 32 = omega (arith, subject-small a (of-side s) f, r .few-atoms) in
         let (e, q) = found (ofNode n b) ds (record { equation = k; atom = a; subject = of-side s }) m (rw (eq-eqb n n refl, eq-eqb b b refl)) in
-        (f .1 .there, told-true (first (ofNode n b) ds) (member (atomsAt t 0 n) b) _ e (h .ofNodes n b (f .1 .there) small) q)
+        (f .1 .there, told-true (firstRaised (ofNode n b) ds) (member (atomsAt t 0 n) b) _ e (h .ofNodes n b (f .1 .there) small) q)
 
     module _ (words-nodes : Words (onNodes (t .asked))) (words-variables : Words (onVariables (t .asked))) where
       -- What is in the table was raised.
       back : (w : Pair) → Demanded p (t .asked) w → (x : Demand) × List·Memᴰ x ds × (w ≡ raisedPair x)
       back (of-node b n) (l, m) =
           let told = h .ofNodes n b l (member-within 32 (atomsAt t 0 n) b (words-nodes n) m) in
-          let (e, q) = told-some (first (ofNode n b) ds) (member (atomsAt t 0 n) b) _ told m in
+          let (e, q) = told-some (firstRaised (ofNode n b) ds) (member (atomsAt t 0 n) b) _ told m in
           let (x, i, y) = find (ofNode n b) ds e q in (x, i, node-pair n b (x .atom) (x .subject) y)
       back (for-variable b X) (l, m) =
           let told = h .ofVariables X b l (member-within 32 (atomsAt t 1 X) b (words-variables X) m) in
-          let (e, q) = told-some (first (ofVariable X b) ds) (member (atomsAt t 1 X) b) _ told m in
+          let (e, q) = told-some (firstRaised (ofVariable X b) ds) (member (atomsAt t 1 X) b) _ told m in
           let (x, i, y) = find (ofVariable X b) ds e q in (x, i, variable-pair X b (x .atom) (x .subject) y)
 
       -- When the run is over, the table asks for what it raised.

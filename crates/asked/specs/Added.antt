@@ -7,7 +7,8 @@ use lib.ListN.{getD, set}
 use lib.Dec.{eqb}
 use Rattle.sets.specs.Bits.{member, union, inserted}
 use Rattle.problem.specs.Problem.{Fresh}
-use Rattle.demands.specs.Demands.{onNodes, onVariables}
+use Rattle.problem.specs.Held.{assumedFor}
+use Rattle.demands.specs.Demands.{onNodes, onVariables, askedOfNode, askedOfVariable}
 
 -- Tag 21, "freshness: atom, node": one atom more for the node, field by field.
 unfoldable pub withAtom : ℕ → ℕ → List ℕ → List ℕ
@@ -30,13 +31,13 @@ joined (suc n) more sets = set (joined n more sets) n (union (getD sets n 0) (ge
 -- What adding does: the table's whole content, who is in it, and that the other column stays.
 pub record FreshnessAdded (ds : List Fresh) (before after : List (List ℕ)) : Type 0 where
   pub content : after ≡ set before 0 (freshened ds (onNodes before))
-  pub marks : (n a : ℕ) → member (getD (onNodes after) n 0) a ≡ (asksFresh ds a n || member (getD (onNodes before) n 0) a)
+  pub marks : (n a : ℕ) → member (askedOfNode after n) a ≡ (asksFresh ds a n || member (askedOfNode before n) a)
   pub others : onVariables after ≡ onVariables before
 
 pub record AssumptionsAdded (variables : ℕ) (assumed : List ℕ) (before after : List (List ℕ)) : Type 0 where
   pub content : after ≡ set before 1 (joined variables assumed (onVariables before))
   pub marks : (X a : ℕ) → X < variables
-      → member (getD (onVariables after) X 0) a ≡ (member (getD assumed X 0) a || member (getD (onVariables before) X 0) a)
+      → member (askedOfVariable after X) a ≡ (member (assumedFor assumed X) a || member (askedOfVariable before X) a)
   pub others : onNodes after ≡ onNodes before
 
 -- Every set is one of 32 atoms, as in a table of 32-bit words.

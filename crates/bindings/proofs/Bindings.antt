@@ -26,7 +26,7 @@ use Rattle.run.specs.Meaning.{Binding}
 use Rattle.run.specs.Run.{valueOf}
 use Rattle.bindings.specs.declared.Value.{Value}
 use Rattle.bindings.specs.declared.Found.{Found}
-use Rattle.bindings.specs.Bindings.{orderIn, variableAt, nodeOf, madeBy, imagesOf, Bindings, tables, bindingAt, bindingsOf, Keeps, sideOf}
+use Rattle.bindings.specs.Bindings.{orderIn, variableAt, nodeOf, madeBy, imagesOf, Bindings, bindingTables, bindingAt, bindingsOf, Keeps, sideOf}
 use Rattle.bindings.specs.Bindings.{bindingOf, putIn, withBinding, Added, foundAt, valueIn, LookedUp}
 
 -- ---- the set of bound variables
@@ -171,7 +171,7 @@ pub record Room (k X : ℕ) (t : Bindings) : Type 0 where
 -- The columns' lengths as the code of `add` comes to know them: each where it is about to write it.
 pub room : (k X : ℕ) (made : List (List ℕ)) (order nodes : List ℕ) (values : List (List ℕ)) → k < 64 → X < 64
     → length (getD made 0 []) ≡ 64 → length (getD (set made 0 order) 1 []) ≡ 64 → length (getD (set (set made 0 order) 1 nodes) 2 []) ≡ 64
-    → length values ≡ 64 → Room k X (tables made values)
+    → length values ≡ 64 → Room k X (bindingTables made values)
 unfolding orderIn
 room k X made order nodes values k-few X-few o n m v =
     let n-stays : getD (set made 0 order) 1 [] ≡ getD made 1 [] = getD-set-other made 0 1 order [] (λ e. omega arith) in

@@ -35,8 +35,8 @@ pub record Bindings : Type 0 where
   pub made : List (List ℕ)
   pub values : List (List ℕ)
 
-abbrev pub tables : List (List ℕ) → List (List ℕ) → Bindings
-tables made values = record { made = made; values = values }
+abbrev pub bindingTables : List (List ℕ) → List (List ℕ) → Bindings
+bindingTables made values = record { made = made; values = values }
 
 -- The binding of the variable X, with A atoms in use.
 unfoldable pub bindingAt : ℕ → Bindings → ℕ → Binding

@@ -10,8 +10,9 @@ ghost use Prim.Native.Nat.{_≤_, _<_};
 ghost use lib.ListN.{length, set};
 ghost use Rattle.permutation.specs.Table.{image};
 ghost use Rattle.sets.specs.Bits.{member};
-ghost use Rattle.bindings.specs.Bindings.{tables, variableAt, nodeOf, imagesOf, Keeps, Added, LookedUp};
+ghost use Rattle.bindings.specs.Bindings.{bindingTables, variableAt, nodeOf, imagesOf, Keeps, Added, LookedUp};
 use names::Atom;
+use names::MOST_VARIABLES;
 use names::NodeId;
 use names::Variable;
 use permutation::Permutation;
@@ -19,9 +20,9 @@ use rows::Row;
 use sets::VariableSet;
 
 // Three columns: the variables in the order in which they were bound; by variable its value's node; by variable the number of the equation.
-pub type Made = [[u16; 64]; 3];
+pub type Made = [[u16; MOST_VARIABLES]; 3];
 
-pub const EMPTY_MADE: Made = [[0; 64]; 3];
+pub const EMPTY_MADE: Made = [[0; MOST_VARIABLES]; 3];
 
 const ORDER: usize = 0;
 
@@ -30,9 +31,9 @@ const NODES: usize = 1;
 const NUMBERS: usize = 2;
 
 // By variable its value's images.
-pub type Values = [Row; 64];
+pub type Values = [Row; MOST_VARIABLES];
 
-pub const EMPTY_VALUES: Values = [rows::EMPTY; 64];
+pub const EMPTY_VALUES: Values = [rows::EMPTY; MOST_VARIABLES];
 
 // "The binding holds the right side's node and the images acting on it from outside."
 pub struct Value {
@@ -72,8 +73,8 @@ pub fn add(
     number: u8,
 ) -> VariableSet
     requires { ⌜ Keeps (now made) k (bound .0) × (member (bound .0) (x .0) ≡ false) × (x .0 < 64) ⌝ }
-    ensures { λ r. ⌜ Added (tables (now (made .entry)) (now (values .entry))) k (bound .0) (x .0) value number
-        (tables (now (made .exit)) (now (values .exit))) (r .0) ⌝ }
+    ensures { λ r. ⌜ Added (bindingTables (now (made .entry)) (now (values .entry))) k (bound .0) (x .0) value number
+        (bindingTables (now (made .exit)) (now (values .exit))) (r .0) ⌝ }
 {
     let i = x.0 as usize;
     let row = rows::keep(value.images);
@@ -110,7 +111,7 @@ pub fn image_of(values: &Values, n: usize, x: Variable, a: Atom) -> Atom
 
 // The value of a variable.
 pub fn look_up(made: &Made, values: &Values, bound: VariableSet, x: Variable) -> Found
-    ensures { λ r. ⌜ LookedUp (tables (now (made .entry)) (now (values .entry))) (bound .0) (x .0) r ⌝ }
+    ensures { λ r. ⌜ LookedUp (bindingTables (now (made .entry)) (now (values .entry))) (bound .0) (x .0) r ⌝ }
 {
     if bound.has(x) {
         let images = rows::load(values[x.0 as usize]);

@@ -14,7 +14,7 @@ use Rattle.nominal.proofs.Solutions.{every-append}
 use Rattle.field.specs.Field.{Bytes}
 use Rattle.problem.specs.Problem.{Equal, Problem}
 use Rattle.problem.specs.Readable.{Readable}
-use Rattle.problem.specs.Reader.{Reading, read, unreadable, reading, readAll, baseTags}
+use Rattle.problem.specs.Reader.{Reading, read, unreadable, reading, baseTags}
 use Rattle.problem.proofs.Readable.{readable}
 use Rattle.problem.proofs.Refusals.{one-first, numbers-right}
 use Rattle.run.specs.Meaning.{Side, Binding, Fact, meaning}

@@ -3,7 +3,7 @@
 ghost use mathlib.Core.Path.{_≡_};
 ghost use Prim.Native.Nat.{_≤_};
 ghost use Rattle.run.specs.Answer as run;
-ghost use Rattle.numbers.specs.Verdicts.{packed};
+ghost use Rattle.numbers.specs.Numbers.{packed};
 use solver::tables::Asked;
 use solver::tables::Assumed;
 use solver::tables::Firsts;
@@ -52,7 +52,7 @@ pub extern "C" fn cheesetrestle_solve_with(
         (run.solve (now (input .entry)) (now (output .entry)) .place) ⌝ }
     ensures { λ _. ⌜ now (output .exit) ≡ run.solve (now (input .entry)) (now (output .entry)) .output ⌝ }
 {
-    let verdict = solver::entries::solve_with(
+    let given = solver::entries::solve_with(
         input,
         output,
         places,
@@ -66,7 +66,6 @@ pub extern "C" fn cheesetrestle_solve_with(
         firsts,
         marks,
     );
-    let given = numbers::of_verdict(verdict);
     joined(given.number, given.place)
 }
 
@@ -87,7 +86,7 @@ pub extern "C" fn cheesetrestle_judge_with(
 ) -> u64
     ensures { λ r. ⌜ r ≡ packed (run.judge (now (input .entry)) .0) (run.judge (now (input .entry)) .1) ⌝ }
 {
-    let judgement = solver::entries::judge_with(
+    let given = solver::entries::judge_with(
         input,
         places,
         assumed,
@@ -100,7 +99,6 @@ pub extern "C" fn cheesetrestle_judge_with(
         firsts,
         marks,
     );
-    let given = numbers::of_judgement(judgement);
     joined(given.number, given.place)
 }
 
@@ -111,8 +109,7 @@ pub extern "C" fn cheesetrestle_solve(input: &[u8], output: &mut [u8]) -> u64
         (run.solve (now (input .entry)) (now (output .entry)) .place) ⌝ }
     ensures { λ _. ⌜ now (output .exit) ≡ run.solve (now (input .entry)) (now (output .entry)) .output ⌝ }
 {
-    let verdict = solver::entries::solve(input, output);
-    let given = numbers::of_verdict(verdict);
+    let given = solver::entries::solve(input, output);
     joined(given.number, given.place)
 }
 
@@ -121,7 +118,6 @@ pub extern "C" fn cheesetrestle_solve(input: &[u8], output: &mut [u8]) -> u64
 pub extern "C" fn cheesetrestle_judge(input: &[u8]) -> u64
     ensures { λ r. ⌜ r ≡ packed (run.judge (now (input .entry)) .0) (run.judge (now (input .entry)) .1) ⌝ }
 {
-    let judgement = solver::entries::judge(input);
-    let given = numbers::of_judgement(judgement);
+    let given = solver::entries::judge(input);
     joined(given.number, given.place)
 }

@@ -3,7 +3,7 @@ use Prim.Native.Nat.{ℕ, zero, suc, _+_, _^_, _≤_, _<_}
 use native.Mathlib.Omega.{arith}
 use mathlib.Core.Path.{_≡_, refl, sym, _∙_, ap}
 use mathlib.Core.Logic.{_≢_}
-use mathlib.Core.Bool.{Bool, true, false, _&&_, cond, true≢false}
+use mathlib.Core.Bool.{Bool, true, false, _&&_, or-comm, cond, true≢false}
 use mathlib.Core.List.{List, [], _∷_, _++_, map, append-assoc, append-nil, List·Memᴰ, List·Memᴰ·head, List·Memᴰ·tail}
 use mathlib.Core.Option.{Option, none, some}
 use lib.ListN.{length, getD, set, drop, replicate, length-set, length-append, length-replicate, length-drop}
@@ -14,13 +14,15 @@ use borrow.Author.Tests.{eq-eqb, ne-eqb}
 use Rattle.permutation.specs.Table.{Table, image, inverted, placeFrom, place}
 use Rattle.names.proofs.Equal.{by-eq}
 use Rattle.permutation.proofs.Table.{getD-default, place-first, place-holds, image-inverted-place}
-use Rattle.sets.specs.Bits.{member, inserted, removed, lowest, members}
+use Rattle.sets.specs.Bits.{member, union, inserted, removed, lowest, members}
 use Rattle.sets.proofs.Bits.{by-member, member-empty, member-inserted-same, member-inserted-other}
+use Rattle.sets.proofs.Bits.{member-union, member-union-left, member-union-right}
 use Rattle.sets.proofs.Bits.{members-empty, members-lowest, in-members-member, member-within}
 use Rattle.run.specs.Run.{Subject, of-variable, of-side, Demand, demands}
 use Rattle.demands.specs.Demands.{Sheet, sheet, rowOf, atomsAt, firstAt, Line, line, lineAt, withLine, RowThere, lineMarked, lineMarkedAll}
-use Rattle.demands.specs.Demands.{marked, markedAll, emptied, cleared, ofNode, ofVariable, first}
-use Rattle.demands.specs.Demands.{Told, ToldAt, Tells, Raised, SideRaised, VariableRaised}
+use Rattle.demands.specs.Demands.{marked, markedAll, emptied, demandsCleared, ofNode, ofVariable, firstRaised}
+use Rattle.demands.specs.Demands.{PlaceTells, ToldAt, RowsTell, Raised, SideRaised, VariableRaised}
+use Rattle.demands.specs.Demands.{askedOfNode, askedOfVariable, withSet, SetThere, NodeAsked, VariableAsked}
 
 -- ---- a row in hand and in the tables
 
@@ -75,11 +77,11 @@ later-not : (o : Option ℕ) (k : ℕ) → later o false k ≡ o
 later-not none k = refl
 later-not (some e) k = refl
 
-told-marked : (o : Option ℕ) (k e : ℕ) → Told o true e → Told (later o true k) true e
+told-marked : (o : Option ℕ) (k e : ℕ) → PlaceTells o true e → PlaceTells (later o true k) true e
 told-marked none k e t = absurd (true≢false t)
 told-marked (some d) k e t = t
 
-told-new : (o : Option ℕ) (k e : ℕ) → Told o false e → Told (later o true k) true k
+told-new : (o : Option ℕ) (k e : ℕ) → PlaceTells o false e → PlaceTells (later o true k) true k
 told-new none k e t = (refl, refl)
 told-new (some d) k e t = absurd (true≢false (sym (t .0)))
 
@@ -146,8 +148,8 @@ module _ (column i k b : ℕ) (t : Sheet) (there : RowThere column i t) where
       rw (set-new, member-inserted-same 32 (atomsAt t column i) b l, number-new l)
       (told-new o k (firstAt t column i b) (rw m at h)))
 
-  tells-marked : (f : ℕ → ℕ → Option ℕ) (rows : ℕ) → b < 32 → Tells f rows column t
-      → Tells (λ j c. later (f j c) (eqb j i && eqb c b) k) rows column (marked column i k b t)
+  tells-marked : (f : ℕ → ℕ → Option ℕ) (rows : ℕ) → b < 32 → RowsTell f rows column t
+      → RowsTell (λ j c. later (f j c) (eqb j i && eqb c b) k) rows column (marked column i k b t)
   tells-marked f rows l h j c x y =
       by-eq j i
       (λ p. by-eq c b
@@ -157,7 +159,7 @@ module _ (column i k b : ℕ) (t : Sheet) (there : RowThere column i t) where
 
 -- The other column says what it said, where its rows are others.
 tells-other : (column i k b : ℕ) (t : Sheet) (f : ℕ → ℕ → Option ℕ) (rows other : ℕ) → other ≢ column
-    → ((j : ℕ) → j < rows → rowOf other j ≢ rowOf column i) → Tells f rows other t → Tells f rows other (marked column i k b t)
+    → ((j : ℕ) → j < rows → rowOf other j ≢ rowOf column i) → RowsTell f rows other t → RowsTell f rows other (marked column i k b t)
 tells-other column i k b t f rows other d apart h j c x y =
     let new = lineNew i k b (lineAt column i t) in
     by-marked column i k b t (ToldAt (f j c) other j c) (λ m. h j c x y)
@@ -170,19 +172,19 @@ tells-other column i k b t f rows other d apart h j c x y =
 -- ---- the demands in the order raised
 
 first-append : (f : ℕ → Subject → Bool) (ds : List Demand) (d : Demand)
-    → first f (ds ++ (d ∷ [])) ≡ later (first f ds) (f (d .atom) (d .subject)) (d .equation)
+    → firstRaised f (ds ++ (d ∷ [])) ≡ later (firstRaised f ds) (f (d .atom) (d .subject)) (d .equation)
 first-append f [] d = refl
 first-append f (e ∷ ds) d = go (first-append f ds d) (f (e .atom) (e .subject))
   where
     asks : Option ℕ → Option ℕ
     asks o = later o (f (d .atom) (d .subject)) (d .equation)
 
-    go : first f (ds ++ (d ∷ [])) ≡ asks (first f ds) → (m : Bool)
-        → cond m (some (e .equation)) (first f (ds ++ (d ∷ []))) ≡ asks (cond m (some (e .equation)) (first f ds))
+    go : firstRaised f (ds ++ (d ∷ [])) ≡ asks (firstRaised f ds) → (m : Bool)
+        → cond m (some (e .equation)) (firstRaised f (ds ++ (d ∷ []))) ≡ asks (cond m (some (e .equation)) (firstRaised f ds))
     go r true = refl
     go r false = r
 
-tells-same : (f g : ℕ → ℕ → Option ℕ) (rows column : ℕ) (t : Sheet) → ((i b : ℕ) → f i b ≡ g i b) → Tells f rows column t → Tells g rows column t
+tells-same : (f g : ℕ → ℕ → Option ℕ) (rows column : ℕ) (t : Sheet) → ((i b : ℕ) → f i b ≡ g i b) → RowsTell f rows column t → RowsTell g rows column t
 tells-same f g rows column t e h i b x y = rw (e i b) at (h i b x y)
 
 abbrev ofSide : ℕ → ℕ → Table → ℕ → Demand
@@ -201,13 +203,13 @@ module _ (nodes variables : ℕ) (ds : List Demand) (t : Sheet) (r : Raised node
       let after = marked 0 n k b t in
       record {
         ofNodes =
-            tells-same (λ j c. later (first (ofNode j c) ds) (eqb j n && eqb c b) k) (λ j c. first (ofNode j c) (ds ++ (d ∷ []))) nodes 0 after
+            tells-same (λ j c. later (firstRaised (ofNode j c) ds) (eqb j n && eqb c b) k) (λ j c. firstRaised (ofNode j c) (ds ++ (d ∷ []))) nodes 0 after
             (λ j c. sym (first-append (ofNode j c) ds d))
-            (tells-marked 0 n k b t there (λ j c. first (ofNode j c) ds) nodes small (r .ofNodes));
+            (tells-marked 0 n k b t there (λ j c. firstRaised (ofNode j c) ds) nodes small (r .ofNodes));
         ofVariables =
-            tells-same (λ j c. first (ofVariable j c) ds) (λ j c. first (ofVariable j c) (ds ++ (d ∷ []))) variables 1 after
-            (λ j c. sym (first-append (ofVariable j c) ds d ∙ later-not (first (ofVariable j c) ds) k))
-            (tells-other 0 n k b t (λ j c. first (ofVariable j c) ds) variables 1 (λ e. omega arith) (λ j x e. omega arith) (r .ofVariables));
+            tells-same (λ j c. firstRaised (ofVariable j c) ds) (λ j c. firstRaised (ofVariable j c) (ds ++ (d ∷ []))) variables 1 after
+            (λ j c. sym (first-append (ofVariable j c) ds d ∙ later-not (firstRaised (ofVariable j c) ds) k))
+            (tells-other 0 n k b t (λ j c. firstRaised (ofVariable j c) ds) variables 1 (λ e. omega arith) (λ j x e. omega arith) (r .ofVariables));
       }
 
   raised-variable : (a X k : ℕ) → RowThere 1 X t → a < 32 → nodes ≤ 512
@@ -217,14 +219,14 @@ module _ (nodes variables : ℕ) (ds : List Demand) (t : Sheet) (r : Raised node
       let after = marked 1 X k a t in
       record {
         ofNodes =
-            tells-same (λ j c. first (ofNode j c) ds) (λ j c. first (ofNode j c) (ds ++ (d ∷ []))) nodes 0 after
-            (λ j c. sym (first-append (ofNode j c) ds d ∙ later-not (first (ofNode j c) ds) k))
-            (tells-other 1 X k a t (λ j c. first (ofNode j c) ds) nodes 0 (λ e. omega arith) (λ j x e. omega arith) (r .ofNodes));
+            tells-same (λ j c. firstRaised (ofNode j c) ds) (λ j c. firstRaised (ofNode j c) (ds ++ (d ∷ []))) nodes 0 after
+            (λ j c. sym (first-append (ofNode j c) ds d ∙ later-not (firstRaised (ofNode j c) ds) k))
+            (tells-other 1 X k a t (λ j c. firstRaised (ofNode j c) ds) nodes 0 (λ e. omega arith) (λ j x e. omega arith) (r .ofNodes));
         ofVariables =
-            tells-same (λ j c. later (first (ofVariable j c) ds) (eqb j X && eqb c a) k) (λ j c. first (ofVariable j c) (ds ++ (d ∷ [])))
+            tells-same (λ j c. later (firstRaised (ofVariable j c) ds) (eqb j X && eqb c a) k) (λ j c. firstRaised (ofVariable j c) (ds ++ (d ∷ [])))
             variables 1 after
             (λ j c. sym (first-append (ofVariable j c) ds d))
-            (tells-marked 1 X k a t there (λ j c. first (ofVariable j c) ds) variables small (r .ofVariables));
+            (tells-marked 1 X k a t there (λ j c. firstRaised (ofVariable j c) ds) variables small (r .ofVariables));
       }
 
 -- Marking the atoms of a list is marking them one after another in the tables.
@@ -269,16 +271,16 @@ column-emptied (sets ∷ asked) zero n l i h = emptied-at n i l h
 column-emptied (sets ∷ asked) (suc column) n l i h = column-emptied asked column n l i h
 
 -- Nothing is raised yet, whatever the tables held.
-pub raised-none : (nodes variables : ℕ) (asked firsts : List (List ℕ)) → Raised nodes variables [] (sheet (cleared nodes variables asked) firsts)
-unfolding cleared
+pub raised-none : (nodes variables : ℕ) (asked firsts : List (List ℕ)) → Raised nodes variables [] (sheet (demandsCleared nodes variables asked) firsts)
+unfolding demandsCleared
 raised-none nodes variables asked firsts =
-    let first = set asked 0 (emptied nodes (getD asked 0 [])) in
+    let firstRaised = set asked 0 (emptied nodes (getD asked 0 [])) in
     record {
       ofNodes = λ i b h k. rw (
-        getD-set-other first 1 0 (emptied variables (getD asked 1 [])) [] (λ e. omega arith),
+        getD-set-other firstRaised 1 0 (emptied variables (getD asked 1 [])) [] (λ e. omega arith),
         column-emptied asked 0 nodes (getD asked 0 []) i h,
       ) (member-empty b);
-      ofVariables = λ i b h k. rw (column-emptied first 1 variables (getD asked 1 []) i h) (member-empty b);
+      ofVariables = λ i b h k. rw (column-emptied firstRaised 1 variables (getD asked 1 []) i h) (member-empty b);
     }
 
 -- ---- the atom that the images send to another
@@ -331,6 +333,55 @@ variable-raised w X k t after h there e =
           rw e (raised-variables nodes variables ds t X k (members 32 w) small there x r);
     }
 
+-- ---- what asking more leaves
+
+-- A set put into a row is there, and the other rows of its column stay.
+module _ (column i : ℕ) (asked : List (List ℕ)) (there : SetThere column i asked) (atoms : ℕ) where
+  abbrev after-set : List ℕ
+  after-set = getD (withSet column i atoms asked) column []
+
+  column-put : after-set ≡ set (getD asked column []) i atoms
+  column-put = getD-set-same asked column (set (getD asked column []) i atoms) [] (there .columns)
+
+  set-here : getD after-set i 0 ≡ atoms
+  set-here = rw column-put (getD-set-same (getD asked column []) i atoms 0 (there .sets))
+
+  set-elsewhere : (j : ℕ) → j ≢ i → getD after-set j 0 ≡ getD (getD asked column []) j 0
+  set-elsewhere j other = rw column-put (getD-set-other (getD asked column []) i j atoms 0 other)
+
+pub node-asked : (n a : ℕ) (before after : List (List ℕ)) → a < 32 → SetThere 0 n before
+    → after ≡ withSet 0 n (inserted 32 (askedOfNode before n) a) before → NodeAsked n a before after
+node-asked n a before after small there e =
+    let atoms = askedOfNode before n in
+    let more = inserted 32 atoms a in
+    record {
+      content = e;
+      marks = λ m b.
+          by-eq n m
+          (λ p.
+          rw (e, ← p, eq-eqb n n refl, set-here 0 n before there more)
+          (by-eq a b
+          (λ q. rw (← q, eq-eqb a a refl) (member-inserted-same 32 atoms a small))
+          (λ q. rw (ne-eqb a b q) (member-inserted-other 32 atoms a b (λ s. q (sym s))))))
+          (λ p. rw (e, ne-eqb n m p, set-elsewhere 0 n before there more m (λ s. p (sym s))));
+      others = rw e (getD-set-other before 0 1 (set (getD before 0 []) n more) [] (λ s. omega arith));
+    }
+
+pub variable-asked : (X atoms : ℕ) (before after : List (List ℕ)) → SetThere 1 X before
+    → after ≡ withSet 1 X (union (askedOfVariable before X) atoms) before → VariableAsked X atoms before after
+variable-asked X atoms before after there e =
+    let both = union (askedOfVariable before X) atoms in
+    record {
+      content = e;
+      marks = λ Y b.
+          by-eq X Y
+          (λ p.
+          rw (e, ← p, eq-eqb X X refl, set-here 1 X before there both)
+          (member-union (askedOfVariable before X) atoms b ∙ or-comm (member (askedOfVariable before X) b) (member atoms b)))
+          (λ p. rw (e, ne-eqb X Y p, set-elsewhere 1 X before there both Y (λ s. p (sym s))));
+      others = rw e (getD-set-other before 1 0 (set (getD before 1 []) X both) [] (λ s. omega arith));
+    }
+
 -- ---- the loop over the atoms of a set
 
 pub line-marked-none : (i k : ℕ) (l : Line) → lineMarkedAll i k (members 32 0) l ≡ l
@@ -341,3 +392,26 @@ pub line-marked-lowest : (i k w : ℕ) (l : Line) → 0 < w → w < 2 ^ 32
     → lineMarkedAll i k (members 32 w) l ≡ lineMarkedAll i k (members 32 (removed w (lowest 32 w))) (lineMarked i k (lowest 32 w) l)
 unfolding lineMarkedAll
 line-marked-lowest i k w l p h = rw (members-lowest 32 w p h)
+
+-- ---- the first sets joined
+
+-- All atoms of the first i sets are in one.
+pub record Joined (sets : List ℕ) (i all : ℕ) : Type 0 where
+  pub has : (k : ℕ) → k < i → (a : ℕ) → member (getD sets k 0) a ≡ true → member all a ≡ true
+
+pub joined-start : {sets : List ℕ} {all : ℕ} → Joined sets 0 all
+joined-start = record { has = λ k l. absurd (omega arith) }
+
+pub joined-more : {sets : List ℕ} {i all : ℕ} → Joined sets i all → Joined sets (i + 1) (union all (getD sets i 0))
+joined-more {sets} {i} {all} j = record {
+  has = λ k l a m.
+      by-eq k i
+      (λ q. member-union-right all (getD sets i 0) a (rw q at m))
+      (λ d. member-union-left all (getD sets i 0) a (j .has k (omega arith) a m));
+}
+
+pub joined-empty : {sets : List ℕ} {i all : ℕ} → Joined sets i all → all ≡ 0 → (k : ℕ) → k < i → (a : ℕ) → member (getD sets k 0) a ≡ false
+joined-empty {sets} {i} {all} j e k l a =
+    by-member (getD sets k 0) a
+    (λ m. absurd (true≢false (sym (j .has k l a m) ∙ ap (λ (w : ℕ). member w a) e ∙ member-empty a)))
+    (λ m. m)

@@ -3,34 +3,41 @@
 // table of numbers is never cleared.
 
 ghost use mathlib.Core.Path.{_≡_};
-ghost use Prim.Native.Nat.{_≤_, _<_};
-ghost use lib.ListN.{length};
+ghost use mathlib.Core.Bool.{false};
+ghost use Prim.Native.Nat.{ℕ, _≤_, _<_};
+ghost use lib.ListN.{length, getD, set};
 ghost use Rattle.permutation.specs.Table.{image, inverted};
 ghost use Rattle.permutation.specs.Store.{table};
-ghost use Rattle.sets.specs.Bits.{members};
-ghost use Rattle.demands.specs.Demands.{line, lineMarked, lineMarkedAll, sheet, rowOf, RowThere, marked, markedAll, emptied, cleared};
+ghost use Rattle.sets.specs.Bits.{member, members};
+ghost use Rattle.demands.specs.Demands.{line, lineMarked, lineMarkedAll, sheet, rowOf, RowThere, marked, markedAll, emptied, demandsCleared};
+ghost use Rattle.demands.specs.Demands.{askedOfNode, askedOfVariable, withSet, SetThere, NodeAsked, VariableAsked};
 ghost use Rattle.demands.specs.Demands.{SideRaised, VariableRaised};
 use names::Atom;
+use names::MOST_ATOMS;
+use names::MOST_NODES;
+use names::MOST_VARIABLES;
 use names::NodeId;
 use names::Variable;
 use permutation::Permutation;
 use sets::AtomSet;
 
 // By node, or by variable, the atoms that must be fresh for it.
-pub type Sets = [u32; 512];
+pub type Sets = [u32; MOST_NODES];
 
 // Two columns: the sets by node, and those by variable.
 pub type Asked = [Sets; 2];
 
-pub const EMPTY_ASKED: Asked = [[0; 512]; 2];
+pub const EMPTY_ASKED: Asked = [[0; MOST_NODES]; 2];
 
 // For each atom of a set the number of the equation that asked for it first.
-pub type Numbers = [u8; 32];
+pub type Numbers = [u8; MOST_ATOMS];
 
-// The rows of 512 nodes, then those of 64 variables.
-pub type Firsts = [Numbers; 576];
+// The rows of the nodes, then those of the variables.
+const ROWS: usize = MOST_NODES + MOST_VARIABLES;
 
-pub const EMPTY_FIRSTS: Firsts = [[0; 32]; 576];
+pub type Firsts = [Numbers; ROWS];
+
+pub const EMPTY_FIRSTS: Firsts = [[0; MOST_ATOMS]; ROWS];
 
 // The column of the nodes' sets, and that of the variables'.
 pub const NODES: usize = 0;
@@ -51,10 +58,78 @@ fn empty_rows(sets: &mut [u32], n: usize)
 // Nothing is demanded yet, of so many nodes and variables.
 pub fn clear(asked: &mut Asked, nodes: usize, variables: usize)
     requires { ⌜ (nodes ≤ 512) × (variables ≤ 64) ⌝ }
-    ensures { λ r. ⌜ now (asked .exit) ≡ cleared nodes variables (now (asked .entry)) ⌝ }
+    ensures { λ r. ⌜ now (asked .exit) ≡ demandsCleared nodes variables (now (asked .entry)) ⌝ }
 {
     empty_rows(&mut asked[NODES], nodes);
     empty_rows(&mut asked[VARIABLES], variables);
+}
+
+// The atoms asked of a node, and of a variable.
+pub fn of_node(asked: &Asked, n: NodeId) -> AtomSet
+    requires { ⌜ n .0 < 512 ⌝ }
+    ensures { λ r. ⌜ r .0 ≡ askedOfNode (now (asked .entry)) (n .0) ⌝ }
+{
+    AtomSet(asked[NODES][n.0 as usize])
+}
+
+pub fn of_variable(asked: &Asked, x: Variable) -> AtomSet
+    ensures { λ r. ⌜ r .0 ≡ askedOfVariable (now (asked .entry)) (x .0) ⌝ }
+{
+    AtomSet(asked[VARIABLES][x.0 as usize])
+}
+
+// Whether one of the first n sets has an atom. They are joined with no test between them, so that many are taken at once.
+pub fn any(sets: &[u32], n: usize) -> bool
+    requires { ⌜ n ≤ length (now sets) ⌝ }
+    ensures { λ r. ⌜ (r ≡ false → (i : ℕ) → i < n → (a : ℕ) → member (getD (now (sets .entry)) i 0) a ≡ false) ⌝ }
+{
+    let mut all = AtomSet::empty();
+    let mut i: usize = 0;
+    while i < n {
+        all = all.union(AtomSet(sets[i]));
+        i += 1;
+    }
+    !all.is_empty()
+}
+
+// Whether atoms are asked of one of the first n nodes.
+pub fn any_of_nodes(asked: &Asked, n: usize) -> bool
+    requires { ⌜ n ≤ 512 ⌝ }
+    ensures { λ r. ⌜ (r ≡ false → (i : ℕ) → i < n → (a : ℕ) → member (askedOfNode (now (asked .entry)) i) a ≡ false) ⌝ }
+{
+    any(&asked[NODES], n)
+}
+
+fn put(sets: &mut [u32], i: usize, atoms: AtomSet)
+    requires { ⌜ i < length (now sets) ⌝ }
+    ensures { λ r. ⌜ now (sets .exit) ≡ set (now (sets .entry)) i (atoms .0) ⌝ }
+{
+    sets[i] = atoms.0;
+}
+
+// The table comes as a slice and its column is lent on as one: so both lengths are known here, and those who call are told that the row is there.
+fn put_in(asked: &mut [Sets], column: usize, i: usize, atoms: AtomSet)
+    requires { ⌜ (column < length (now asked)) × (i < 512) ⌝ }
+    ensures there { λ r. ⌜ SetThere column i (now (asked .entry)) ⌝ }
+    ensures content { λ r. ⌜ now (asked .exit) ≡ withSet column i (atoms .0) (now (asked .entry)) ⌝ }
+{
+    put(&mut asked[column], i, atoms);
+}
+
+// One atom more is asked of a node, which no equation demanded; and a set of atoms of a variable.
+pub fn ask_of_node(asked: &mut Asked, n: NodeId, a: Atom)
+    requires { ⌜ (n .0 < 512) × (a .0 < 32) ⌝ }
+    ensures { λ r. ⌜ NodeAsked (n .0) (a .0) (now (asked .entry)) (now (asked .exit)) ⌝ }
+{
+    let atoms = of_node(asked, n).with(a);
+    put_in(asked, NODES, n.0 as usize, atoms);
+}
+
+pub fn ask_of_variable(asked: &mut Asked, x: Variable, more: AtomSet)
+    ensures { λ r. ⌜ VariableAsked (x .0) (more .0) (now (asked .entry)) (now (asked .exit)) ⌝ }
+{
+    let atoms = of_variable(asked, x).union(more);
+    put_in(asked, VARIABLES, x.0 as usize, atoms);
 }
 
 // Equation `number` asks for an atom in row i. Only the first equation that asks is kept: in the row's own numbers, beside the sets of its column.
@@ -92,7 +167,7 @@ fn raise(asked: &mut [Sets], firsts: &mut [Numbers], column: usize, i: usize, a:
     ensures content { λ r. ⌜ sheet (now (asked .exit)) (now (firsts .exit))
         ≡ marked column i number (a .0) (sheet (now (asked .entry)) (now (firsts .entry))) ⌝ }
 {
-    let row = column * 512 + i;
+    let row = column * MOST_NODES + i;
     mark(&mut asked[column], &mut firsts[row], i, a, number);
 }
 
@@ -109,7 +184,7 @@ fn raise_all(
     ensures content { λ r. ⌜ sheet (now (asked .exit)) (now (firsts .exit))
         ≡ markedAll column i number (members 32 (atoms .0)) (sheet (now (asked .entry)) (now (firsts .entry))) ⌝ }
 {
-    let row = column * 512 + i;
+    let row = column * MOST_NODES + i;
     mark_all(&mut asked[column], &mut firsts[row], i, atoms, number);
 }
 

@@ -9,12 +9,12 @@ use Rattle.sets.specs.Bits.{member}
 use Rattle.problem.specs.Problem.{Problem}
 use Rattle.problem.specs.Readable.{Readable}
 use Rattle.problem.specs.Held.{problemOf}
-use Rattle.problem.specs.Opening.{ReadInto}
+use Rattle.problem.specs.Told.{ReadInto}
 use Rattle.problem.specs.declared.Counts.{Counts}
 use Rattle.problem.proofs.Counted.{all-atoms, all-variables}
 use Rattle.run.specs.Answer.{Asked, askedFresh, askedAssumed, askedRaised, hasFact}
 use Rattle.bindings.specs.Bindings.{Bindings, bindingsOf}
-use Rattle.fresh.specs.Pairs.{Pair, Resolved, Asks}
+use Rattle.fresh.specs.Pairs.{Pair, PairsResolved, Asks}
 use Rattle.fresh.specs.Marks.{Marked, valueAt, Bound}
 use Rattle.fresh.proofs.Tables.{bound-values, resolved-tables}
 use Rattle.asked.specs.Added.{AssumptionsAdded}
@@ -28,7 +28,7 @@ module _ {p : Problem} {t : Bindings} {count bound : ℕ} (m : MeaningIn p t cou
 
   -- The marks in the tables are read off as the definition's facts.
   pub outcome : Readable p → {ds : List Asked} {S : Pair → Type 0} {seen after : List ℕ} {fails : Bool} → Asks (p .nodes) ds S
-      → Resolved (p .nodes) (valueAt (p .atoms) bound (t .made) (t .values)) S (Marked p seen after) (fails ≡ true)
+      → PairsResolved (p .nodes) (valueAt (p .atoms) bound (t .made) (t .values)) S (Marked p seen after) (fails ≡ true)
       → Outcome p (bindingsOf (p .atoms) t count) ds bound after fails
   outcome r {ds} {S} {seen} {after} {fails} asks res =
       let (failing, quiet) = resolved-tables p (m .protected) t count bound (m .keeps) (m .meaning) (r .named-nodes) seen after fails res ds asks in

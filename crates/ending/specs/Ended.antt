@@ -16,9 +16,8 @@ use Rattle.bindings.specs.Bindings.{Bindings, bindingsOf, Keeps}
 use Rattle.fresh.specs.Pairs.{Pair, Asks}
 use Rattle.fresh.specs.Meaning.{Meaningful}
 use Rattle.fresh.specs.Marks.{Demanded, atomOf}
-use Rattle.numbers.specs.declared.Verdict.{Verdict}
-use Rattle.numbers.specs.declared.Judgement.{Judgement}
-use Rattle.numbers.specs.Verdicts.{resultOf, judgementGiven}
+use Rattle.numbers.specs.declared.Given.{Given}
+use Rattle.numbers.specs.Numbers.{resultOf, judgementGiven}
 
 -- Only atoms that are there are demanded.
 abbrev pub Small : Problem → List (List ℕ) → Type 0
@@ -57,7 +56,7 @@ abbrev pub endIn : {p : Problem} {t : Bindings} {count bound : ℕ} {asked : Lis
 endIn {p} {t} {count} e = finished (e .left) (bindingsOf (p .atoms) t count) (e .demands)
 
 -- What the solver gives back for it, and the judge.
-abbrev pub Concludes : Problem → Bindings → ℕ → ℕ → List (List ℕ) → ℕ → Verdict → List ℕ → List ℕ → Type 0
+abbrev pub Concludes : Problem → Bindings → ℕ → ℕ → List (List ℕ) → ℕ → Given → List ℕ → List ℕ → Type 0
 Concludes p t count bound asked steps r before after =
     (e : Ended p t count bound asked steps) → resultOf r after ≡ given (verdictOf p (endIn e)) before
 
@@ -65,6 +64,6 @@ Concludes p t count bound asked steps r before after =
 abbrev pub SomeEnded : Problem → Bindings → ℕ → List (List ℕ) → Type 0
 SomeEnded p t bound asked = (count : ℕ) × (steps : ℕ) × Ended p t count bound asked steps
 
-abbrev pub Judges : Problem → Bindings → ℕ → List (List ℕ) → Judgement → Type 0
+abbrev pub Judges : Problem → Bindings → ℕ → List (List ℕ) → Given → Type 0
 Judges p t bound asked r =
     (count steps : ℕ) (e : Ended p t count bound asked steps) → judgementGiven r ≡ run.judgementOf p (endIn e)

@@ -6,20 +6,19 @@ ghost use Rattle.ending.specs.Covered.{coveredAt, covered};
 use demands::Asked;
 use names::Variable;
 use problem::Assumed;
-use sets::AtomSet;
+use problem::look;
 use sets::VariableSet;
 
-fn covers(bound: VariableSet, asked: &Asked, assumed: &Assumed, x: usize) -> bool
-    requires { ⌜ x < 64 ⌝ }
-    ensures { λ r. ⌜ r ≡ coveredAt (bound .0) (onVariables (now (asked .entry))) (now (assumed .entry)) x ⌝ }
+fn covers(bound: VariableSet, asked: &Asked, assumed: &Assumed, x: Variable) -> bool
+    requires { ⌜ x .0 < 64 ⌝ }
+    ensures { λ r. ⌜ r ≡ coveredAt (bound .0) (onVariables (now (asked .entry))) (now (assumed .entry)) (x .0) ⌝ }
 {
-    let variable = x as u8;
-    if bound.has(Variable(variable)) {
+    if bound.has(x) {
         return true;
     }
-    let facts = asked[demands::VARIABLES][x];
-    let given = assumed[x];
-    AtomSet(facts).minus(AtomSet(given)).is_empty()
+    let facts = demands::of_variable(asked, x);
+    let given = look::assumed_for(assumed, x);
+    facts.minus(given).is_empty()
 }
 
 // Whether every fact is assumed: an atom that is asked of an unbound variable.
@@ -29,7 +28,7 @@ pub fn all_assumed(bound: VariableSet, asked: &Asked, assumed: &Assumed, variabl
 {
     let mut x: usize = 0;
     while x < variables {
-        if !covers(bound, asked, assumed, x) {
+        if !covers(bound, asked, assumed, Variable(x as u8)) {
             return false;
         }
         x += 1;

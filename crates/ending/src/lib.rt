@@ -6,8 +6,8 @@ ghost use mathlib.Core.Path.{_≡_};
 ghost use Rattle.problem.specs.Held.{problemOf};
 ghost use Rattle.problem.specs.Look.{Standing};
 ghost use Rattle.problem.specs.Told.{countsOf};
-ghost use Rattle.problem.specs.Opening.{ReadInto};
-ghost use Rattle.bindings.specs.Bindings.{tables};
+ghost use Rattle.problem.specs.Told.{ReadInto};
+ghost use Rattle.bindings.specs.Bindings.{bindingTables};
 ghost use Rattle.demands.specs.Demands.{onVariables};
 ghost use Rattle.fresh.specs.Marks.{Bound};
 ghost use Rattle.ending.specs.Ended.{Small, Resolves, Ended, SomeEnded, Concludes, Judges};
@@ -17,8 +17,11 @@ use bindings::Made;
 use bindings::Values;
 use demands::Asked;
 use fresh::Marks;
-use numbers::Judgement;
-use numbers::Verdict;
+use numbers::DOES_NOT_HOLD;
+use numbers::Given;
+use numbers::HOLDS;
+use numbers::NOT_FRESH;
+use numbers::give;
 use problem::Assumed;
 use problem::Counts;
 use problem::Places;
@@ -38,7 +41,7 @@ fn resolve(
     requires read { ⌜ Standing (now s) (now places) × (c ≡ countsOf (problemOf (now s))) ⌝ }
     requires bound { ⌜ Bound (problemOf (now s)) (bound .0) (now made) (now values) ⌝ }
     requires small { ⌜ Small (problemOf (now s)) (now asked) ⌝ }
-    ensures { λ r. ⌜ Resolves (problemOf (now (s .entry))) (tables (now (made .entry)) (now (values .entry))) (bound .0)
+    ensures { λ r. ⌜ Resolves (problemOf (now (s .entry))) (bindingTables (now (made .entry)) (now (values .entry))) (bound .0)
         (now (asked .entry)) (onVariables (now (asked .exit))) r ⌝ }
 {
     asked::add_freshness(s, places, asked, c.freshness as usize);
@@ -70,18 +73,18 @@ pub fn conclude(
     bound: VariableSet,
     count: usize,
     steps: u32,
-) -> Verdict
+) -> Given
     requires read { ⌜ ReadInto (now s) (now places) (now assumed) c ⌝ }
-    requires ended { ⌜ Ended (problemOf (now s)) (tables (now made) (now values)) count (bound .0) (now asked) steps ⌝ }
-    ensures { λ r. ⌜ Concludes (problemOf (now (s .entry))) (tables (now (made .entry)) (now (values .entry))) count (bound .0)
+    requires ended { ⌜ Ended (problemOf (now s)) (bindingTables (now made) (now values)) count (bound .0) (now asked) steps ⌝ }
+    ensures { λ r. ⌜ Concludes (problemOf (now (s .entry))) (bindingTables (now (made .entry)) (now (values .entry))) count (bound .0)
         (now (asked .entry)) steps r (now (output .entry)) (now (output .exit)) ⌝ }
 {
     let variables = c.variables as usize;
     asked::add_assumptions(assumed, asked, variables);
     if resolve(s, c, places, made, values, asked, marks, bound) {
-        return Verdict::NotFresh;
+        return give(NOT_FRESH, 0);
     }
-    let g = answer::write(
+    answer::write(
         output,
         made,
         values,
@@ -91,11 +94,7 @@ pub fn conclude(
         bound,
         c.atoms as usize,
         variables,
-    );
-    if g.number == 0 {
-        return Verdict::Accepted(g.place);
-    }
-    Verdict::TooShort(g.place)
+    )
 }
 
 // The judgement, for a run that is finished: "without the assumption demands".
@@ -109,17 +108,17 @@ pub fn judged(
     asked: &mut Asked,
     marks: &mut Marks,
     bound: VariableSet,
-) -> Judgement
+) -> Given
     requires read { ⌜ ReadInto (now s) (now places) (now assumed) c ⌝ }
-    requires ended { ⌜ SomeEnded (problemOf (now s)) (tables (now made) (now values)) (bound .0) (now asked) ⌝ }
-    ensures { λ r. ⌜ Judges (problemOf (now (s .entry))) (tables (now (made .entry)) (now (values .entry))) (bound .0) (now (asked .entry)) r ⌝ }
+    requires ended { ⌜ SomeEnded (problemOf (now s)) (bindingTables (now made) (now values)) (bound .0) (now asked) ⌝ }
+    ensures { λ r. ⌜ Judges (problemOf (now (s .entry))) (bindingTables (now (made .entry)) (now (values .entry))) (bound .0) (now (asked .entry)) r ⌝ }
 {
     if resolve(s, c, places, made, values, asked, marks, bound) {
-        return Judgement::DoesNotHold;
+        return give(DOES_NOT_HOLD, 0);
     }
     words(asked);
     if all_assumed(bound, asked, assumed, c.variables as usize) {
-        return Judgement::Holds;
+        return give(HOLDS, 0);
     }
-    Judgement::DoesNotHold
+    give(DOES_NOT_HOLD, 0)
 }

@@ -10,13 +10,13 @@ use lib.ListN.{length, take, drop, length-take, length-drop, List·getD-eq-defau
 use lib.Seq.{take-all, drop-drop, getD-take, getD-drop, length-take-le}
 use lib.Dec.{leb}
 use borrow.Author.Tests.{leb-true}
-use Rattle.field.specs.Field.{cut, whole, front, bodied, byte, Bytes, Stands}
+use Rattle.field.specs.Field.{cut, whole, front, bodied, byte, Bytes, FieldStands}
 
 whole-chosen : (b : Bool) (t t' : ℕ) (x y x' y' : List ℕ) → cond b (whole t x y) cut ≡ whole t' x' y' → (b ≡ true) × (t ≡ t') × (x ≡ x') × (y ≡ y')
 whole-chosen true t t' x y x' y' e = (refl, cc, cc, cc)
 whole-chosen false t t' x y x' y' e = let z : _≡_ {A = ℕ} 0 1 = cc in absurd (omega arith)
 
-pub stands : (s : List ℕ) (tag : ℕ) (body rest : List ℕ) → front s ≡ whole tag body rest → Stands s tag body rest
+pub stands : (s : List ℕ) (tag : ℕ) (body rest : List ℕ) → front s ≡ whole tag body rest → FieldStands s tag body rest
 unfolding front bodied
 stands [] tag body rest e = let z : _≡_ {A = ℕ} 0 1 = cc in absurd (omega arith)
 stands (t ∷ []) tag body rest e = let z : _≡_ {A = ℕ} 0 1 = cc in absurd (omega arith)
@@ -45,7 +45,7 @@ bytes-take n s b i = go (decLt i n)
     go (yes h) = rw (getD-take n s i 0 h) (b i)
     go (no h) = rw (List·getD-eq-default (take n s) 0 {n = i} (omega (arith, length-take n s))) (omega arith)
 
-pub bytes-body : (s : List ℕ) (tag : ℕ) (body rest : List ℕ) → Bytes s → Stands s tag body rest → Bytes body
+pub bytes-body : (s : List ℕ) (tag : ℕ) (body rest : List ℕ) → Bytes s → FieldStands s tag body rest → Bytes body
 bytes-body s tag body rest b w = rw (w .the-body) (bytes-take (length body) (drop 3 s) (bytes-drop 3 s b))
 
 -- A part that goes to the end is what is left of the list.

@@ -7,7 +7,7 @@ use lib.ListN.{length, take, drop}
 use lib.Seq.{length-take-le}
 use borrow.Author.Tests.{le-leb, lt-leb}
 use Rattle.field.specs.Field.{Field, cut, whole, front, bodied, byte, word}
-use Rattle.field.specs.Front.{told, frontOf}
+use Rattle.field.specs.Front.{frontTold, frontOf}
 use Rattle.field.specs.declared.AtFront.the-variants.{Whole, Cut, End}
 use Rattle.field.proofs.Standing.{stands}
 
@@ -44,7 +44,7 @@ unfolding frontOf
 at-end [] e = refl
 at-end (b ∷ s) e = absurd (go (front (b ∷ s)) e)
   where
-    go : (f : Field) → told f ≡ End → ⊥
+    go : (f : Field) → frontTold f ≡ End → ⊥
     go cut e = let z : _≡_ {A = ℕ} 0 1 = cc in omega arith
     go (whole t x y) e = let z : _≡_ {A = ℕ} 0 1 = cc in omega arith
 
@@ -60,7 +60,7 @@ unfolding frontOf
 at-cut [] e = let z : _≡_ {A = ℕ} 0 1 = cc in absurd (omega arith)
 at-cut (b ∷ s) e = record { first = b; others = s; some = refl; the-front = go (front (b ∷ s)) e }
   where
-    go : (f : Field) → told f ≡ Cut → f ≡ cut
+    go : (f : Field) → frontTold f ≡ Cut → f ≡ cut
     go cut e = refl
     go (whole t x y) e = let z : _≡_ {A = ℕ} 0 1 = cc in absurd (omega arith)
 
@@ -69,7 +69,7 @@ unfolding frontOf
 at-whole [] tag n e = let z : _≡_ {A = ℕ} 0 1 = cc in absurd (omega arith)
 at-whole (b ∷ s) tag n e = go (front (b ∷ s)) refl e
   where
-    go : (f : Field) → front (b ∷ s) ≡ f → told f ≡ Whole tag n
+    go : (f : Field) → front (b ∷ s) ≡ f → frontTold f ≡ Whole tag n
         → Something (b ∷ s) (whole tag (take n (drop 3 (b ∷ s))) (drop (3 + n) (b ∷ s))) × (3 + n ≤ length (b ∷ s))
     go cut w e = let z : _≡_ {A = ℕ} 0 1 = cc in absurd (omega arith)
     go (whole t x y) w e =

@@ -37,7 +37,7 @@ front (tag ∷ high ∷ []) = cut
 front (tag ∷ high ∷ low ∷ s) = bodied tag (high * 256 + low) s
 
 -- How a whole field stands at the front: the first byte is its tag, the next two its length, and body and rest are parts of the list.
-pub record Stands (s : List ℕ) (tag : ℕ) (body rest : List ℕ) : Type 0 where
+pub record FieldStands (s : List ℕ) (tag : ℕ) (body rest : List ℕ) : Type 0 where
   pub the-tag : tag ≡ byte s 0
   pub the-length : length body ≡ word s 1
   pub fits : 3 + length body ≤ length s

@@ -6,10 +6,10 @@ use Rattle.field.specs.Field.{Field, cut, whole, front}
 use Rattle.field.specs.declared.AtFront.{AtFront}
 use Rattle.field.specs.declared.AtFront.the-variants.{Whole, Cut, End}
 
-abbrev pub told : Field → AtFront
-told cut = Cut
-told (whole tag body rest) = Whole tag (length body)
+abbrev pub frontTold : Field → AtFront
+frontTold cut = Cut
+frontTold (whole tag body rest) = Whole tag (length body)
 
 unfoldable pub frontOf : List ℕ → AtFront
 frontOf [] = End
-frontOf (b ∷ s) = told (front (b ∷ s))
+frontOf (b ∷ s) = frontTold (front (b ∷ s))

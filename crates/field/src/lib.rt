@@ -1,8 +1,8 @@
 // The field reader: what stands at the front of some bytes, its body as a part of them, and the numbers in a body. Nothing is copied.
 ghost use mathlib.Core.Path.{_≡_};
-ghost use Prim.Native.Nat.{ℕ, _+_, _≤_, _<_};
+ghost use Prim.Native.Nat.{_+_, _≤_, _<_};
 ghost use lib.ListN.{length, take, drop};
-ghost use Rattle.field.specs.Field.{byte, word, long};
+ghost use Rattle.field.specs.Field.{word, long};
 ghost use Rattle.field.specs.Front.{frontOf};
 
 // A whole field with its tag and the length of its body; a field that is cut short; nothing.

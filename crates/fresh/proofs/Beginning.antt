@@ -12,7 +12,7 @@ use Rattle.sets.proofs.Bits.{member-empty}
 use Rattle.names.proofs.Equal.{by-eq}
 use Rattle.problem.specs.Problem.{Problem}
 use Rattle.run.specs.Meaning.{Side}
-use Rattle.fresh.specs.Pairs.{Pair, of-node, of-variable, Reached, start}
+use Rattle.fresh.specs.Pairs.{Pair, of-node, of-variable, PairReached, start}
 use Rattle.fresh.specs.Marks.{Marked, Only, Looked, Visited, Begun}
 use Rattle.fresh.proofs.Growth.{reached-through, looked-more}
 
@@ -25,7 +25,7 @@ module _ (p : Problem) (nodes₀ variables₀ : List ℕ) where
   pub record Beginning (i : ℕ) (seen variables : List ℕ) : Type 0 where
     pub of-variables : (a X : ℕ) → Wanted (of-variable a X) → Marked p seen variables (of-variable a X)
     pub of-nodes : (a n : ℕ) → n < i → Wanted (of-node a n) → Marked p seen variables (of-node a n)
-    pub from : (value : ℕ → Option Side) (w : Pair) → Marked p seen variables w → Reached (p .nodes) value Wanted w
+    pub from : (value : ℕ → Option Side) (w : Pair) → Marked p seen variables w → PairReached (p .nodes) value Wanted w
     pub looked : (value : ℕ → Option Side) (w : Pair) → Marked p seen variables w → Looked (p .nodes) value (Marked p seen variables) w
 
   pub beginning-start : (seen : List ℕ) → ((i : ℕ) → i < length (p .nodes) → getD seen i 0 ≡ 0) → Beginning 0 seen variables₀
@@ -39,7 +39,7 @@ module _ (p : Problem) (nodes₀ variables₀ : List ℕ) where
       nothing : (a n : ℕ) → Marked p seen variables₀ (of-node a n) → ⊥
       nothing a n h = true≢false (sym (h .1) ∙ ap (λ (w : ℕ). member w a) (z n (h .0)) ∙ member-empty a)
 
-      from₀ : (value : ℕ → Option Side) (w : Pair) → Marked p seen variables₀ w → Reached (p .nodes) value Wanted w
+      from₀ : (value : ℕ → Option Side) (w : Pair) → Marked p seen variables₀ w → PairReached (p .nodes) value Wanted w
       from₀ value (of-node a n) h = absurd (nothing a n h)
       from₀ value (of-variable a X) h = start {w = of-variable a X} h
 
@@ -61,7 +61,7 @@ module _ (p : Problem) (nodes₀ variables₀ : List ℕ) where
       kept : (w : Pair) → Marked p seen variables w → Marked p seen′ variables′ w
       kept = v .grown (λ X. none) .kept
 
-      wanted : (value : ℕ → Option Side) (w : Pair) → Only atoms i w → Reached (p .nodes) value Wanted w
+      wanted : (value : ℕ → Option Side) (w : Pair) → Only atoms i w → PairReached (p .nodes) value Wanted w
       wanted value (of-node a n) (q, h) = rw q (start {w = of-node a i} (few, rw (← is-atoms) h))
       wanted value (of-variable a X) h = absurd h
 

@@ -9,8 +9,8 @@ use Rattle.sets.specs.Bits.{member}
 use Rattle.sets.proofs.Bits.{by-test, member-empty}
 use Rattle.problem.specs.Problem.{Node, unit-form, atom-form, abstraction-form, pair-form, application-form, suspension-form, formAt, Problem}
 use Rattle.run.specs.Meaning.{Side}
-use Rattle.fresh.specs.Pairs.{Pair, Clashing, Resolved}
-use Rattle.fresh.specs.Marks.{Marked, Begun, Finished, clashAt, Clashed}
+use Rattle.fresh.specs.Pairs.{Pair, Clashing, PairsResolved}
+use Rattle.fresh.specs.Marks.{Marked, Begun, LookedThrough, clashAt, Clashed}
 use Rattle.fresh.proofs.Growth.{reached-through}
 
 clash-some : (f : Node) (w : ℕ) → clashAt f w ≡ true → (a : ℕ) × (f ≡ atom-form a) × (member w a ≡ true)
@@ -46,8 +46,8 @@ module _ (p : Problem) (seen variables : List ℕ) (r : Bool) where
       by-test r (λ e. e) (λ e. absurd (true≢false (sym clash ∙ c .none e n l)))
 
   pub resolved-all : {value : ℕ → Option Side} {S Before : Pair → Type 0} → Begun (p .nodes) S Before
-      → Finished (p .nodes) value Before (Marked p seen variables) → Clashed (p .nodes) seen r
-      → Resolved (p .nodes) value S (Marked p seen variables) (r ≡ true)
+      → LookedThrough (p .nodes) value Before (Marked p seen variables) → Clashed (p .nodes) seen r
+      → PairsResolved (p .nodes) value S (Marked p seen variables) (r ≡ true)
   resolved-all {value} b f c = record {
     has = λ w h. f .kept w (b .has w h);
     from = λ w h. reached-through (b .from value) (f .from w h);

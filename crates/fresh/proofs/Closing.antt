@@ -4,12 +4,12 @@ use native.Mathlib.Omega.{arith}
 use mathlib.Core.Path.{_≡_, sym, _∙_, ap, subst}
 use mathlib.Core.Logic.{⊎-elim}
 use mathlib.Core.Bool.{true, true≢false}
-use mathlib.Core.List.{List, []}
+use mathlib.Core.List.{List, [], _∷_}
 use mathlib.Core.Option.{Option, none, some}
 use lib.ListN.{length, getD, set, length-set}
 use lib.Seq.{getD-set-same, getD-set-other}
 use Rattle.sets.specs.Bits.{member, union}
-use Rattle.sets.proofs.Bits.{by-member, member-empty, subset-member, union-lt}
+use Rattle.sets.proofs.Bits.{by-member, member-empty, subset-member, difference-le, union-lt}
 use Rattle.permutation.specs.Swaps.{inverse}
 use Rattle.permutation.specs.Table.{Table, image, inverted}
 use Rattle.permutation.proofs.Swaps.{within, within-inverse}
@@ -19,9 +19,9 @@ use Rattle.problem.specs.Readable.{Named}
 use Rattle.run.specs.Meaning.{Side}
 use Rattle.bindings.specs.Bindings.{nodeOf, imagesOf}
 use Rattle.demands.specs.Demands.{onVariables}
-use Rattle.fresh.specs.Pairs.{Pair, of-node, of-variable, Leads, to-body, to-argument, to-left, to-right, to-variable, to-value}
-use Rattle.fresh.specs.Pairs.{Reached, start, further, Closed}
-use Rattle.fresh.specs.Marks.{doneIn, Marked, SoFar, Only, added, sentInto, Looked, Visited, Finished}
+use Rattle.fresh.specs.Pairs.{Pair, of-node, of-variable, PairLeads, to-body, to-argument, to-left, to-right, to-variable, to-value}
+use Rattle.fresh.specs.Pairs.{PairReached, start, further, Closed}
+use Rattle.fresh.specs.Marks.{doneIn, Marked, SoFar, Only, added, sentInto, Looked, Visited, LookedThrough}
 use Rattle.fresh.specs.Marks.{valued, valueAt, Bound, atomOf, newAt, Passed}
 use Rattle.fresh.proofs.Sent.{sent-member, member-is-sent}
 use Rattle.fresh.proofs.Rows.{row-same, row-cases}
@@ -43,7 +43,7 @@ module _ (A bound : ℕ) (made values : List (List ℕ)) (X : ℕ) where
 -- What was marked at first is there, all is reached from it, nodes are looked through, and so are the pairs passed on.
 pub record Closing (p : Problem) (value : ℕ → Option Side) (Before Mark : Pair → Type 0) (done : List ℕ) : Type 0 where
   pub kept : (w : Pair) → Before w → Mark w
-  pub from : (w : Pair) → Mark w → Reached (p .nodes) value Before w
+  pub from : (w : Pair) → Mark w → PairReached (p .nodes) value Before w
   pub looked : (w : Pair) → Mark w → Looked (p .nodes) value Mark w
   pub passed : (a X : ℕ) → X < p .variables → member (getD done X 0) a ≡ true → Closed (p .nodes) value Mark (of-variable a X)
 
@@ -63,7 +63,7 @@ module _ {p : Problem} {bound : ℕ} {made values : List (List ℕ)} (b : Bound 
       let long : length (inverted (images X)) ≡ p .atoms = length-inverted (images X) ∙ b .long X q in
       rw long at (permutes-inverted (images X) (b .permutes X q) .inside a (rw long h))
 
-  leads-small : {v w : Pair} → Leads (p .nodes) value v w → atomOf v < p .atoms → atomOf w < p .atoms
+  leads-small : {v w : Pair} → PairLeads (p .nodes) value v w → atomOf v < p .atoms → atomOf w < p .atoms
   leads-small (to-body e d) h = h
   leads-small (to-argument e) h = h
   leads-small (to-left e) h = h
@@ -74,7 +74,7 @@ module _ {p : Problem} {bound : ℕ} {made values : List (List ℕ)} (b : Bound 
       let (q, r) = value-some (p .atoms) bound made values X v e in
       rw r (image-back-small X q a h)
 
-  pub reached-small : {S : Pair → Type 0} → ((w : Pair) → S w → atomOf w < p .atoms) → {w : Pair} → Reached (p .nodes) value S w → atomOf w < p .atoms
+  pub reached-small : {S : Pair → Type 0} → ((w : Pair) → S w → atomOf w < p .atoms) → {w : Pair} → PairReached (p .nodes) value S w → atomOf w < p .atoms
   reached-small h (start s) = h _ s
   reached-small h (further r l) = leads-small l (reached-small h r)
 
@@ -103,11 +103,11 @@ module _ {p : Problem} {bound : ℕ} {made values : List (List ℕ)} (b : Bound 
     unfolding newAt
     asked-here a e = (few, difference-left (getD (onVariables asked) X 0) (getD (doneIn marks) X 0) a e)
 
-    sent-on : (w : Pair) → Only (sentInto (p .atoms) (image (images X)) waiting) (nodeOf made X) w → Reached (p .nodes) value Before w
+    sent-on : (w : Pair) → Only (sentInto (p .atoms) (image (images X)) waiting) (nodeOf made X) w → PairReached (p .nodes) value Before w
     sent-on (of-node a n) (e, h) =
         let k = sent-member (p .atoms) (image (images X)) waiting a h in
         let at-variable = c .from (of-variable (image (images X) a) X) (asked-here (image (images X) a) (k .1)) in
-        let r : Reached (p .nodes) value Before (of-node (image (inverted (images X)) (image (images X) a)) (nodeOf made X)) =
+        let r : PairReached (p .nodes) value Before (of-node (image (inverted (images X)) (image (images X) a)) (nodeOf made X)) =
         further at-variable (to-value (value-bound (p .atoms) bound made values X q)) in
         rw e (rw (inverted-image (images X) a (b .permutes X q)) at r)
     sent-on (of-variable a Y) h = absurd h
@@ -142,7 +142,7 @@ module _ {p : Problem} {bound : ℕ} {made values : List (List ℕ)} (b : Bound 
 
   pub closing-end : {Before : Pair → Type 0} (asked marks : List (List ℕ)) → Closing p value Before (SoFar p asked marks) (doneIn marks)
       → ((X : ℕ) → X < p .variables → member bound X ≡ true → newAt (onVariables asked) (doneIn marks) X ≡ 0)
-      → Finished (p .nodes) value Before (SoFar p asked marks)
+      → LookedThrough (p .nodes) value Before (SoFar p asked marks)
   unfolding newAt
   closing-end asked marks c all = record { kept = c .kept; from = c .from; closed = shut }
     where
@@ -158,8 +158,15 @@ module _ {p : Problem} {bound : ℕ} {made values : List (List ℕ)} (b : Bound 
 
 -- ---- one variable, in the tables
 
+-- Where atoms are asked of a variable, the table has the variables' column.
+asked-there : (asked : List (List ℕ)) (done : List ℕ) (X : ℕ) → 0 < newAt (onVariables asked) done X → 1 < length asked
+unfolding newAt
+asked-there [] done X h = absurd (omega (arith, h, difference-le 0 (getD done X 0)))
+asked-there (nodes ∷ []) done X h = absurd (omega (arith, h, difference-le 0 (getD done X 0)))
+asked-there (nodes ∷ variables ∷ rest) done X h = omega arith
+
 -- The done column is written first, and then a visit of the value's node changes the others.
-module _ {p : Problem} {made values : List (List ℕ)} {X : ℕ} {asked marks : List (List ℕ)} (two-asked : length asked ≡ 2) (two-marks : length marks ≡ 2) where
+module _ {p : Problem} {made values : List (List ℕ)} {X : ℕ} {asked marks : List (List ℕ)} (two-marks : length marks ≡ 2) where
   pub passed-on : {new : ℕ} {done seen variables : List ℕ} → X < length (doneIn marks) → getD (doneIn marks) X 0 < 2 ^ 32 → new < 2 ^ 32
       → 0 < newAt (onVariables asked) (doneIn marks) X → new ≡ newAt (onVariables asked) (doneIn marks) X → done ≡ added (doneIn marks) X new
       → Visited (p .nodes) (sentInto (p .atoms) (image (imagesOf (p .atoms) values X)) new) (nodeOf made X)
@@ -182,7 +189,7 @@ module _ {p : Problem} {made values : List (List ℕ)} {X : ℕ} {asked marks : 
       done-written = getD-set-other (set marks 1 done) 0 1 seen [] (λ q. omega arith) ∙ getD-set-same marks 1 done [] (omega arith)
 
       variables-written : getD (set asked 1 variables) 1 [] ≡ variables
-      variables-written = getD-set-same asked 1 variables [] (omega arith)
+      variables-written = getD-set-same asked 1 variables [] (asked-there asked (doneIn marks) X positive)
 
       done-now : getD (getD (set (set marks 1 done) 0 seen) 1 []) X 0 ≡ union (getD (doneIn marks) X 0) new
       done-now = ap (λ (t : List ℕ). getD t X 0) (done-written ∙ is-done) ∙ row-same (doneIn marks) X new there

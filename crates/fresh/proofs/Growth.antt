@@ -13,16 +13,16 @@ use Rattle.names.proofs.Equal.{by-eq}
 use Rattle.permutation.proofs.Swaps.{act-inverse, inverse-act, within, within-inverse}
 use Rattle.problem.specs.Problem.{Node, unit-form, atom-form, abstraction-form, pair-form, application-form, suspension-form, formAt, Problem}
 use Rattle.run.specs.Meaning.{Side}
-use Rattle.fresh.specs.Pairs.{Pair, of-node, of-variable, to-body, to-argument, to-left, to-right, to-variable, Reached, start, further, Closed}
-use Rattle.fresh.specs.Marks.{Marked, Only, added, sentInto, Looked, Grown, Visited}
+use Rattle.fresh.specs.Pairs.{Pair, of-node, of-variable, to-body, to-argument, to-left, to-right, to-variable, PairReached, start, further, Closed}
+use Rattle.fresh.specs.Marks.{Marked, Only, added, sentInto, Looked, MarksGrown, Visited}
 use Rattle.fresh.proofs.Rows.{row-kept, row-new, row-cases}
 use Rattle.fresh.proofs.Sent.{sent-member, member-is-sent}
 
 -- ---- without tables
 
 module _ {nodes : List Node} {value : ℕ → Option Side} where
-  pub reached-through : {S T : Pair → Type 0} → ((w : Pair) → T w → Reached nodes value S w)
-      → {w : Pair} → Reached nodes value T w → Reached nodes value S w
+  pub reached-through : {S T : Pair → Type 0} → ((w : Pair) → T w → PairReached nodes value S w)
+      → {w : Pair} → PairReached nodes value T w → PairReached nodes value S w
   reached-through h (start t) = h _ t
   reached-through h (further r l) = further (reached-through h r) l
 
@@ -33,27 +33,27 @@ looked-more nodes value h (of-node a n) c = λ v l. h v (c v l)
 looked-more nodes value h (of-variable a X) c = tt
 
 module _ {nodes : List Node} {value : ℕ → Option Side} where
-  grown-none : {S Mark : Pair → Type 0} → Grown nodes value S Mark Mark
+  grown-none : {S Mark : Pair → Type 0} → MarksGrown nodes value S Mark Mark
   grown-none = record { kept = λ w h. h; new = λ w h. inl h }
 
-  grown-more : {S A B C : Pair → Type 0} → Grown nodes value S A B → Grown nodes value S B C → Grown nodes value S A C
+  grown-more : {S A B C : Pair → Type 0} → MarksGrown nodes value S A B → MarksGrown nodes value S B C → MarksGrown nodes value S A C
   grown-more {S} {A} {B} {C} g h = record {
     kept = λ w k. h .kept w (g .kept w k);
     new = λ w k. ⊎-elim (earlier w) (λ r. inr r) (h .new w k);
   }
     where
       -- What the first growth marked stays looked through.
-      earlier : (w : Pair) → B w → A w ⊎ (Reached nodes value S w × Looked nodes value C w)
+      earlier : (w : Pair) → B w → A w ⊎ (PairReached nodes value S w × Looked nodes value C w)
       earlier w b = ⊎-elim (λ a. inl a) (λ r. inr (r .0, looked-more nodes value (h .kept) w (r .1))) (g .new w b)
 
-  grown-from : {S T A B : Pair → Type 0} → ((w : Pair) → T w → Reached nodes value S w)
-      → Grown nodes value T A B → Grown nodes value S A B
+  grown-from : {S T A B : Pair → Type 0} → ((w : Pair) → T w → PairReached nodes value S w)
+      → MarksGrown nodes value T A B → MarksGrown nodes value S A B
   grown-from h g = record { kept = g .kept; new = λ w k. ⊎-elim (λ a. inl a) (λ r. inr (reached-through h (r .0), r .1)) (g .new w k) }
 
   -- Marks are set first, and then what they lead to.
   grown-start : {S A B C : Pair → Type 0} → ((w : Pair) → A w → B w)
-      → ((w : Pair) → B w → A w ⊎ (Reached nodes value S w × Looked nodes value C w)) → Grown nodes value S B C
-      → Grown nodes value S A C
+      → ((w : Pair) → B w → A w ⊎ (PairReached nodes value S w × Looked nodes value C w)) → MarksGrown nodes value S B C
+      → MarksGrown nodes value S A C
   grown-start up down g = record { kept = λ w k. g .kept w (up w k); new = λ w k. ⊎-elim (down w) (λ r. inr r) (g .new w k) }
 
 -- What a pair of an atom and a node of a form leads to.
@@ -118,7 +118,7 @@ module _ {p : Problem} {atoms n : ℕ} {seen variables : List ℕ} {new : ℕ} {
 
   -- The rules lead here from the atoms at the node, whatever the bindings are.
   abbrev Led : (ℕ → Option Side) → Pair → Type 0
-  Led value = Reached (p .nodes) value (Only atoms n)
+  Led value = PairReached (p .nodes) value (Only atoms n)
 
   led-here : (value : ℕ → Option Side) (a : ℕ) → member new a ≡ true → Led value (of-node a n)
   led-here value a e = start {w = of-node a n} (refl, difference-left atoms (getD seen n 0) a (ap (λ (w : ℕ). member w a) (sym (t .is-new)) ∙ e))
@@ -139,7 +139,7 @@ module _ {p : Problem} {atoms n : ℕ} {seen variables : List ℕ} {new : ℕ} {
 
   -- What the new atoms lead to is marked, and nothing else: so the atoms were visited.
   visited-by : (After : Pair → Type 0) (f : Node) → formAt (p .nodes) n ≡ f
-      → ((value : ℕ → Option Side) → Grown (p .nodes) value (Only atoms n) Now After)
+      → ((value : ℕ → Option Side) → MarksGrown (p .nodes) value (Only atoms n) Now After)
       → ((a : ℕ) → member new a ≡ true → Follows After a f)
       → Visited (p .nodes) atoms n Before After
   visited-by After f e grow follows = record {

@@ -29,8 +29,8 @@ use Rattle.run.proofs.Bindings.{by-value, Settled, Meant}
 use Rattle.run.proofs.Questions.{Each, resolvedAll-holds}
 use Rattle.run.proofs.Facts.{hasFact-true}
 use Rattle.fresh.specs.Meaning.{Meaningful}
-use Rattle.fresh.specs.Pairs.{Pair, of-node, of-variable, Leads, to-body, to-argument, to-left, to-right, to-variable, to-value}
-use Rattle.fresh.specs.Pairs.{Reached, start, further, Closed, Clashing, Resolved, AskedAs, Asks}
+use Rattle.fresh.specs.Pairs.{Pair, of-node, of-variable, PairLeads, to-body, to-argument, to-left, to-right, to-variable, to-value}
+use Rattle.fresh.specs.Pairs.{PairReached, start, further, Closed, Clashing, PairsResolved, AskedAs, Asks}
 
 -- What a run makes has a meaning.
 pub meaningful : {g : Ground} {variables : ℕ} {bs : List Binding} → Meant g variables bs (meaning (g .nodes) bs) → Meaningful g variables bs
@@ -110,7 +110,7 @@ module _ (g : Ground) (variables : ℕ) (named : (n : ℕ) → Named (g .atoms) 
 
   -- ---- downwards: what derives a pair derives what it leads to
 
-  leads-means : (∇ : Environment) {v w : Pair} → Leads nodes value v w → Means ∇ v → Means ∇ w
+  leads-means : (∇ : Environment) {v w : Pair} → PairLeads nodes value v w → Means ∇ v → Means ∇ w
   leads-means ∇ (to-body {b = b} {n = n} {m = i} e d) h = fresh-abstraction .0 (rw (built-at n (abstraction-form b i) e) at h) d
   leads-means ∇ (to-argument {f = f} {n = n} {m = i} e) h = fresh-application .0 (rw (built-at n (application-form f i) e) at h)
   leads-means ∇ (to-left {n = n} {l = l} {r = r} e) h = fresh-pair .0 (rw (built-at n (pair-form l r) e) at h) .0
@@ -118,7 +118,7 @@ module _ (g : Ground) (variables : ℕ) (named : (n : ℕ) → Named (g .atoms) 
   leads-means ∇ (to-variable {a = a} {n = n} {X = X} {π = π} e) h = fresh-inverse π a (σ X) .0 (rw (built-at n (suspension-form π X) e) at h)
   leads-means ∇ (to-value {a = a} {X = X} {v = v} e) h = value-fresh ∇ a X v e .0 h
 
-  reached-means : (∇ : Environment) (S : Pair → Type 0) → ((w : Pair) → S w → Means ∇ w) → {w : Pair} → Reached nodes value S w → Means ∇ w
+  reached-means : (∇ : Environment) (S : Pair → Type 0) → ((w : Pair) → S w → Means ∇ w) → {w : Pair} → PairReached nodes value S w → Means ∇ w
   reached-means ∇ S h (start s) = h _ s
   reached-means ∇ S h (further r l) = leads-means ∇ l (reached-means ∇ S h r)
 
@@ -219,7 +219,7 @@ module _ (g : Ground) (variables : ℕ) (named : (n : ℕ) → Named (g .atoms) 
       let t : substitute σ (d .1) ≡ σ X = ap (substitute σ) e ∙ permute-nil (σ X) in
       (λ h. rw q (rw t at h), λ h. rw t (rw q at h))
 
-  module _ {S Mark : Pair → Type 0} {clashes : Type 0} (r : Resolved nodes value S Mark clashes) (asked : List Asked) (s : Asks nodes asked S) where
+  module _ {S Mark : Pair → Type 0} {clashes : Type 0} (r : PairsResolved nodes value S Mark clashes) (asked : List Asked) (s : Asks nodes asked S) where
     -- An environment that derives the demands derives all that is marked.
     derived : (∇ : Environment) → Every (Derives ∇ σ) asked → (w : Pair) → Mark w → Means ∇ w
     derived ∇ h w k =

@@ -1,14 +1,14 @@
--- Sets in the rows of a column: one row with more atoms, the first rows emptied, and the first rows joined.
+-- Sets in the rows of a column: one row with more atoms, and the first rows emptied.
 use Prim.Native.Nat.{ℕ, _+_, _<_}
 use native.Mathlib.Omega.{arith}
 use mathlib.Core.Path.{_≡_, sym, _∙_, ap}
 use mathlib.Core.Logic.{_≢_, _⊎_, inl, inr, ⊎-elim}
-use mathlib.Core.Bool.{true, false, true≢false}
+use mathlib.Core.Bool.{true}
 use mathlib.Core.List.{List}
 use lib.ListN.{length, getD, set}
 use lib.Seq.{getD-set-same, getD-set-other}
 use Rattle.sets.specs.Bits.{member, union}
-use Rattle.sets.proofs.Bits.{by-member, member-empty, member-union-left, member-union-right, member-union-cases}
+use Rattle.sets.proofs.Bits.{member-union-left, member-union-right, member-union-cases}
 use Rattle.names.proofs.Equal.{by-eq}
 use Rattle.fresh.specs.Marks.{added}
 
@@ -52,26 +52,3 @@ module _ (t : List ℕ) (i more : ℕ) where
 
 pub cleared-more : (t : List ℕ) (i : ℕ) → i < length t → ((k : ℕ) → k < i → getD t k 0 ≡ 0) → (k : ℕ) → k < i + 1 → getD (set t i 0) k 0 ≡ 0
 cleared-more t i h e k l = by-eq k i (λ q. rw q (getD-set-same t i 0 0 h)) (λ d. getD-set-other t i k 0 0 d ∙ e k (omega arith))
-
--- ---- the first rows joined
-
--- All atoms of the first i rows are in a set.
-pub record Joined (rows : List ℕ) (i all : ℕ) : Type 0 where
-  pub has : (k : ℕ) → k < i → (a : ℕ) → member (getD rows k 0) a ≡ true → member all a ≡ true
-
-pub joined-start : {rows : List ℕ} {all : ℕ} → Joined rows 0 all
-joined-start = record { has = λ k l. absurd (omega arith) }
-
-pub joined-more : {rows : List ℕ} {i all : ℕ} → Joined rows i all → Joined rows (i + 1) (union all (getD rows i 0))
-joined-more {rows} {i} {all} j = record {
-  has = λ k l a m.
-      by-eq k i
-      (λ q. member-union-right all (getD rows i 0) a (rw q at m))
-      (λ d. member-union-left all (getD rows i 0) a (j .has k (omega arith) a m));
-}
-
-pub joined-empty : {rows : List ℕ} {i all : ℕ} → Joined rows i all → all ≡ 0 → (k : ℕ) → k < i → (a : ℕ) → member (getD rows k 0) a ≡ false
-joined-empty {rows} {i} {all} j e k l a =
-    by-member (getD rows k 0) a
-    (λ m. absurd (true≢false (sym (j .has k l a m) ∙ ap (λ (w : ℕ). member w a) e ∙ member-empty a)))
-    (λ m. m)

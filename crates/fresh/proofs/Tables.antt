@@ -17,7 +17,7 @@ use Rattle.run.specs.Answer.{Asked, resolvedAll, hasFact}
 use Rattle.bindings.specs.Bindings.{Bindings, bindingAt, bindingsOf, Keeps}
 use Rattle.bindings.proofs.Bindings.{valueOf-set}
 use Rattle.fresh.specs.Meaning.{Meaningful}
-use Rattle.fresh.specs.Pairs.{Pair, Resolved, Asks}
+use Rattle.fresh.specs.Pairs.{Pair, PairsResolved, Asks}
 use Rattle.fresh.specs.Marks.{Marked, valued, valueAt, Bound}
 use Rattle.fresh.proofs.Right.{resolved-right}
 use Rattle.fresh.proofs.Closing.{value-bound}
@@ -58,7 +58,8 @@ module _ (p : Problem) (isProtected : ℕ → Bool) (t : Bindings) (k bound : �
 
     -- What was resolved in tables is what the definition resolves: the verdict, and the facts at the unbound variables.
     pub resolved-tables : (named : (n : ℕ) → Named (p .atoms) (p .variables) n (formAt (p .nodes) n)) {S : Pair → Type 0} (seen asked : List ℕ) (r : Bool)
-        → Resolved (p .nodes) (valueAt (p .atoms) bound (t .made) (t .values)) S (Marked p seen asked) (r ≡ true) → (ds : List Asked) → Asks (p .nodes) ds S
+        → PairsResolved (p .nodes) (valueAt (p .atoms) bound (t .made) (t .values)) S (Marked p seen asked) (r ≡ true) → (ds : List Asked)
+        → Asks (p .nodes) ds S
         → (r ≡ true → resolvedAll (meaning (p .nodes) bindings) ds ≡ none)
         × (r ≡ false → (fs : List Fact) × (resolvedAll (meaning (p .nodes) bindings) ds ≡ some fs)
         × ((a X : ℕ) → (hasFact (a, X) fs ≡ true) ↔ (((X < p .variables) × (member (getD asked X 0) a ≡ true)) × (member bound X ≡ false))))

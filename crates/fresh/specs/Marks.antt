@@ -13,7 +13,7 @@ use Rattle.problem.specs.Problem.{Node, unit-form, atom-form, abstraction-form,
 use Rattle.run.specs.Meaning.{Side}
 use Rattle.bindings.specs.Bindings.{nodeOf, imagesOf, NodesThere}
 use Rattle.demands.specs.Demands.{onNodes, onVariables}
-use Rattle.fresh.specs.Pairs.{Pair, of-node, of-variable, Reached, Closed}
+use Rattle.fresh.specs.Pairs.{Pair, of-node, of-variable, PairReached, Closed}
 
 -- The lent table of marks: by node the atoms that were seen there, and by variable those that were passed on to its value.
 abbrev pub seenIn : List (List ℕ) → List ℕ
@@ -53,25 +53,25 @@ Looked nodes value Mark (of-node a n) = Closed nodes value Mark (of-node a n)
 Looked nodes value Mark (of-variable a X) = Unit {0}
 
 -- No mark is lost, and each new one is reached from S and looked through.
-pub record Grown (nodes : List Node) (value : ℕ → Option Side) (S Before After : Pair → Type 0) : Type 0 where
+pub record MarksGrown (nodes : List Node) (value : ℕ → Option Side) (S Before After : Pair → Type 0) : Type 0 where
   pub kept : (w : Pair) → Before w → After w
-  pub new : (w : Pair) → After w → Before w ⊎ (Reached nodes value S w × Looked nodes value After w)
+  pub new : (w : Pair) → After w → Before w ⊎ (PairReached nodes value S w × Looked nodes value After w)
 
 -- The atoms were visited at a node: whatever the bindings are, visiting does not look at them.
 pub record Visited (nodes : List Node) (atoms n : ℕ) (Before After : Pair → Type 0) : Type 0 where
-  pub grown : (value : ℕ → Option Side) → Grown nodes value (Only atoms n) Before After
+  pub grown : (value : ℕ → Option Side) → MarksGrown nodes value (Only atoms n) Before After
   pub here : (a : ℕ) → member atoms a ≡ true → After (of-node a n)
 
 -- The demands S were visited: all that is left to look through are pairs with bound variables.
 pub record Begun (nodes : List Node) (S Mark : Pair → Type 0) : Type 0 where
   pub has : (w : Pair) → S w → Mark w
-  pub from : (value : ℕ → Option Side) → (w : Pair) → Mark w → Reached nodes value S w
+  pub from : (value : ℕ → Option Side) → (w : Pair) → Mark w → PairReached nodes value S w
   pub looked : (value : ℕ → Option Side) → (w : Pair) → Mark w → Looked nodes value Mark w
 
 -- And then all that waited was looked through.
-pub record Finished (nodes : List Node) (value : ℕ → Option Side) (Before After : Pair → Type 0) : Type 0 where
+pub record LookedThrough (nodes : List Node) (value : ℕ → Option Side) (Before After : Pair → Type 0) : Type 0 where
   pub kept : (w : Pair) → Before w → After w
-  pub from : (w : Pair) → After w → Reached nodes value Before w
+  pub from : (w : Pair) → After w → PairReached nodes value Before w
   pub closed : (w : Pair) → After w → Closed nodes value After w
 
 -- The value of a variable, as the bindings' tables have it, with A atoms in use: of a bound one.

@@ -19,31 +19,31 @@ pub data Pair : Type 0 where
 
 -- "a is fresh .. for a pair or application if for its parts, for [a]t always, for [b]t if for t, and for a suspension if the atom sent to a is
 -- fresh for its variable"; and for a bound variable if for its value.
-pub data Leads (nodes : List Node) (value : ℕ → Option Side) : Pair → Pair → Type 0 where
-  to-body : {a b n m : ℕ} → formAt nodes n ≡ abstraction-form b m → a ≢ b → Leads nodes value (of-node a n) (of-node a m)
-  to-argument : {a f n m : ℕ} → formAt nodes n ≡ application-form f m → Leads nodes value (of-node a n) (of-node a m)
-  to-left : {a n l r : ℕ} → formAt nodes n ≡ pair-form l r → Leads nodes value (of-node a n) (of-node a l)
-  to-right : {a n l r : ℕ} → formAt nodes n ≡ pair-form l r → Leads nodes value (of-node a n) (of-node a r)
-  to-variable : {a n X : ℕ} {π : Swaps} → formAt nodes n ≡ suspension-form π X → Leads nodes value (of-node a n) (of-variable (act (inverse π) a) X)
-  to-value : {a X : ℕ} {v : Side} → value X ≡ some v → Leads nodes value (of-variable a X) (of-node (image (inverted (v .images)) a) (v .node))
+pub data PairLeads (nodes : List Node) (value : ℕ → Option Side) : Pair → Pair → Type 0 where
+  to-body : {a b n m : ℕ} → formAt nodes n ≡ abstraction-form b m → a ≢ b → PairLeads nodes value (of-node a n) (of-node a m)
+  to-argument : {a f n m : ℕ} → formAt nodes n ≡ application-form f m → PairLeads nodes value (of-node a n) (of-node a m)
+  to-left : {a n l r : ℕ} → formAt nodes n ≡ pair-form l r → PairLeads nodes value (of-node a n) (of-node a l)
+  to-right : {a n l r : ℕ} → formAt nodes n ≡ pair-form l r → PairLeads nodes value (of-node a n) (of-node a r)
+  to-variable : {a n X : ℕ} {π : Swaps} → formAt nodes n ≡ suspension-form π X → PairLeads nodes value (of-node a n) (of-variable (act (inverse π) a) X)
+  to-value : {a X : ℕ} {v : Side} → value X ≡ some v → PairLeads nodes value (of-variable a X) (of-node (image (inverted (v .images)) a) (v .node))
 
 -- The pairs that the rules lead to from the pairs S.
-pub data Reached (nodes : List Node) (value : ℕ → Option Side) (S : Pair → Type 0) : Pair → Type 0 where
-  start : {w : Pair} → S w → Reached nodes value S w
-  further : {v w : Pair} → Reached nodes value S v → Leads nodes value v w → Reached nodes value S w
+pub data PairReached (nodes : List Node) (value : ℕ → Option Side) (S : Pair → Type 0) : Pair → Type 0 where
+  start : {w : Pair} → S w → PairReached nodes value S w
+  further : {v w : Pair} → PairReached nodes value S v → PairLeads nodes value v w → PairReached nodes value S w
 
 -- All that the pair leads to is marked.
 abbrev pub Closed : List Node → (ℕ → Option Side) → (Pair → Type 0) → Pair → Type 0
-Closed nodes value Mark v = (w : Pair) → Leads nodes value v w → Mark w
+Closed nodes value Mark v = (w : Pair) → PairLeads nodes value v w → Mark w
 
 -- "A demand that ends at an atom fresh for itself."
 abbrev pub Clashing : List Node → (Pair → Type 0) → Type 0
 Clashing nodes Mark = (a n : ℕ) × Mark (of-node a n) × (formAt nodes n ≡ atom-form a)
 
 -- What is marked in the end is exactly what the demands S lead to, and r says whether one of them ends at an atom fresh for itself.
-pub record Resolved (nodes : List Node) (value : ℕ → Option Side) (S Mark : Pair → Type 0) (clashes : Type 0) : Type 0 where
+pub record PairsResolved (nodes : List Node) (value : ℕ → Option Side) (S Mark : Pair → Type 0) (clashes : Type 0) : Type 0 where
   pub has : (w : Pair) → S w → Mark w
-  pub from : (w : Pair) → Mark w → Reached nodes value S w
+  pub from : (w : Pair) → Mark w → PairReached nodes value S w
   pub closed : (w : Pair) → Mark w → Closed nodes value Mark w
   pub verdict : clashes ↔ Clashing nodes Mark
 

@@ -3,24 +3,24 @@
 // and no pair of atom and node is looked at twice. Whether a demand fails is read off the marks in the end.
 
 ghost use mathlib.Core.Path.{_≡_};
-ghost use mathlib.Core.Bool.{true, false};
+ghost use mathlib.Core.Bool.{true};
 ghost use Prim.Native.Nat.{ℕ, _≤_, _<_, _^_};
 ghost use lib.ListN.{length, getD};
 ghost use Rattle.permutation.specs.Swaps.{Within, swapsIn, act, swapped};
 ghost use Rattle.permutation.specs.Table.{image};
 ghost use Rattle.problem.specs.Held.{problemOf};
 ghost use Rattle.problem.specs.Look.{Standing, NodeStands, Suspended, formNow, ownSwaps};
-ghost use Rattle.sets.specs.Bits.{member};
 ghost use Rattle.bindings.specs.Bindings.{nodeOf, imagesOf};
 ghost use Rattle.demands.specs.Demands.{onNodes, onVariables};
-ghost use Rattle.fresh.specs.Pairs.{Pair, Resolved};
-ghost use Rattle.fresh.specs.Marks.{seenIn, doneIn, Marked, Demanded, SoFar, added, sentInto, Visited, Begun, Finished, Looked};
+ghost use Rattle.fresh.specs.Pairs.{Pair, PairsResolved};
+ghost use Rattle.fresh.specs.Marks.{seenIn, doneIn, Marked, Demanded, SoFar, added, sentInto, Visited, Begun, LookedThrough, Looked};
 ghost use Rattle.fresh.specs.Marks.{valueAt, Bound, atomOf, newAt, Waits, NextBetween, Next, Passed, clashAt, Clashed};
 use bindings::Made;
 use bindings::Values;
 use demands::Asked;
 use demands::Sets;
 use names::Atom;
+use names::MOST_NODES;
 use names::NodeId;
 use names::Variable;
 use problem::Form;
@@ -32,7 +32,7 @@ use sets::VariableSet;
 // Two columns: by node the atoms that were seen there, and by variable those that were passed on to its value.
 pub type Marks = [Sets; 2];
 
-pub const EMPTY_MARKS: Marks = [[0; 512]; 2];
+pub const EMPTY_MARKS: Marks = [[0; MOST_NODES]; 2];
 
 // The column of what was seen, and that of what was passed on.
 const SEEN: usize = 0;
@@ -66,20 +66,6 @@ fn clear(rows: &mut [u32], n: usize)
         rows[i] = 0;
         i += 1;
     }
-}
-
-// Whether one of the first n rows has an atom. The rows are joined with no test between them, so that many are taken at once.
-fn any(rows: &[u32], n: usize) -> bool
-    requires { ⌜ n ≤ length (now rows) ⌝ }
-    ensures { λ r. ⌜ (r ≡ false → (i : ℕ) → i < n → (a : ℕ) → member (getD (now (rows .entry)) i 0) a ≡ false) ⌝ }
-{
-    let mut all = AtomSet::empty();
-    let mut i: usize = 0;
-    while i < n {
-        all = all.union(atoms_at(rows, i));
-        i += 1;
-    }
-    !all.is_empty()
 }
 
 // Each atom of the set under one swap.
@@ -213,15 +199,14 @@ pub fn visit(
     }
 }
 
-// The atoms that were asked of a variable and not yet passed on; those that were are a word, as their table's type says. The tables are lent as slices: so
-// their lengths are known where it is called.
-fn new_at(asked: &[Sets], marks: &[Sets], x: Variable) -> AtomSet
-    requires { ⌜ (1 < length (now asked)) × (1 < length (now marks)) × (x .0 < 64) ⌝ }
+// The atoms that were asked of a variable and not yet passed on; those that were are a word, as their table's type says. That table is lent as a
+// slice: so its length is known where it is called.
+fn new_at(asked: &Asked, marks: &[Sets], x: Variable) -> AtomSet
+    requires { ⌜ (1 < length (now marks)) × (x .0 < 64) ⌝ }
     ensures new { λ r. ⌜ r .0 ≡ newAt (onVariables (now (asked .entry))) (doneIn (now (marks .entry))) (x .0) ⌝ }
     ensures word { λ r. ⌜ getD (doneIn (now (marks .entry))) (x .0) 0 < 2 ^ 32 ⌝ }
 {
-    let i = x.0 as usize;
-    atoms_at(&asked[demands::VARIABLES], i).minus(atoms_at(&marks[DONE], i))
+    demands::of_variable(asked, x).minus(atoms_at(&marks[DONE], x.0 as usize))
 }
 
 // Whether a variable is bound and has such atoms.
@@ -324,7 +309,7 @@ fn close(
         → Looked (problemOf (now s) .nodes) (valueAt (problemOf (now s) .atoms) (bound .0) (now made) (now values))
         (SoFar (problemOf (now s)) (now asked) (now marks)) w) ⌝ }
     requires small { ⌜ ((w : Pair) → SoFar (problemOf (now s)) (now asked) (now marks) w → atomOf w < problemOf (now s) .atoms) ⌝ }
-    ensures finished { λ r. ⌜ Finished (problemOf (now (s .entry)) .nodes)
+    ensures finished { λ r. ⌜ LookedThrough (problemOf (now (s .entry)) .nodes)
         (valueAt (problemOf (now (s .entry)) .atoms) (bound .0) (now (made .entry)) (now (values .entry)))
         (SoFar (problemOf (now (s .entry))) (now (asked .entry)) (now (marks .entry)))
         (SoFar (problemOf (now (s .entry))) (now (asked .exit)) (now (marks .exit))) ⌝ }
@@ -377,7 +362,7 @@ fn begin(s: &[u8], places: &Places, asked: &mut Asked, seen: &mut Sets, nodes: u
         (Marked (problemOf (now (s .entry))) (now (seen .exit)) (onVariables (now (asked .exit)))) ⌝ }
     ensures kept { λ r. ⌜ onNodes (now (asked .exit)) ≡ onNodes (now (asked .entry)) ⌝ }
 {
-    if !any(&asked[demands::NODES], nodes) {
+    if !demands::any_of_nodes(asked, nodes) {
         return;
     }
     visit_demanded(s, places, asked, seen, nodes);
@@ -424,7 +409,7 @@ fn clashing(s: &[u8], places: &Places, seen: &Sets, nodes: usize) -> bool
     requires { ⌜ Standing (now s) (now places) × (nodes ≡ length (problemOf (now s) .nodes)) ⌝ }
     ensures { λ r. ⌜ Clashed (problemOf (now (s .entry)) .nodes) (now (seen .entry)) r ⌝ }
 {
-    if !any(seen, nodes) {
+    if !demands::any(seen, nodes) {
         return false;
     }
     clashing_marked(s, places, seen, nodes)
@@ -460,7 +445,7 @@ pub fn resolve(
     requires sizes { ⌜ (nodes ≡ length (problemOf (now s) .nodes)) × (atoms ≡ problemOf (now s) .atoms)
         × (variables ≡ problemOf (now s) .variables) ⌝ }
     requires small { ⌜ ((w : Pair) → Demanded (problemOf (now s)) (now asked) w → atomOf w < problemOf (now s) .atoms) ⌝ }
-    ensures resolved { λ r. ⌜ Resolved (problemOf (now (s .entry)) .nodes)
+    ensures resolved { λ r. ⌜ PairsResolved (problemOf (now (s .entry)) .nodes)
         (valueAt (problemOf (now (s .entry)) .atoms) (bound .0) (now (made .entry)) (now (values .entry)))
         (Demanded (problemOf (now (s .entry))) (now (asked .entry)))
         (SoFar (problemOf (now (s .entry))) (now (asked .exit)) (now (marks .exit))) (r ≡ true) ⌝ }

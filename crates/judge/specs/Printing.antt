@@ -5,5 +5,5 @@ use Rattle.printer.specs.Lines.{judgeLine}
 use Rattle.run.specs.Answer as run
 
 -- The line of what the judge gives back.
-abbrev pub lineOf : run.Judgement → List ℕ
-lineOf j = judgeLine (j .0) (j .1)
+abbrev pub judgeLineOf : run.Judgement → List ℕ
+judgeLineOf j = judgeLine (j .0) (j .1)

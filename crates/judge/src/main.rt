@@ -3,17 +3,16 @@ ghost use Prim.Native.Nat.{_≤_};
 ghost use lib.ListN.{length};
 ghost use Rattle.run.specs.Answer as run;
 ghost use Rattle.intake.specs.Fills.{Fills};
-ghost use Rattle.judge.specs.Serving.{Works, Serves};
+ghost use Rattle.judge.specs.Serving.{JudgeWorks, JudgeServes};
 use exchange::Served;
 use exchange::Worked;
 
 // What the problem prints, whole, in `out` from its start.
 fn work(input: &[u8], out: &mut [u8]) -> Worked
     requires { ⌜ 33 ≤ length (now out) ⌝ }
-    ensures { λ r. ⌜ Works (run.judge (now (input .entry))) (now (out .exit)) r ⌝ }
+    ensures { λ r. ⌜ JudgeWorks (run.judge (now (input .entry))) (now (out .exit)) r ⌝ }
 {
-    let judgement = solver::entries::judge(input);
-    let given = numbers::of_judgement(judgement);
+    let given = solver::entries::judge(input);
     let end = printer::judge_line(out, 0, given.number, given.place);
     Worked {
         given: given,
@@ -25,7 +24,7 @@ fn work(input: &[u8], out: &mut [u8]) -> Worked
 fn serve(input: &mut [u8], out: &mut [u8]) -> Served
     requires { ⌜ 33 ≤ length (now out) ⌝ }
     ensures { λ r. ⌜ Fills (length (now (input .exit))) (r .filled) ⌝ }
-    ensures { λ r. ⌜ Serves (now (input .exit)) (now (out .entry)) (now (out .exit)) r ⌝ }
+    ensures { λ r. ⌜ JudgeServes (now (input .exit)) (now (out .entry)) (now (out .exit)) r ⌝ }
 {
     let filled = intake::fill(0, input);
     if filled.failed {

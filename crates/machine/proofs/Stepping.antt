@@ -19,7 +19,7 @@ use Rattle.run.specs.Meaning.{Side, Binding, meaning}
 use Rattle.run.specs.Run.{Subject, Ground, top, valueOf, permuted, resolved, goes-on, rule, step, pending}
 use Rattle.run.proofs.Did.{occursSide}
 use Rattle.run.proofs.Bindings.{Meant, Settled}
-use Rattle.run.proofs.States.{State as RunState, state-next, start, Keeps as KeepsAll, step-keeps}
+use Rattle.run.proofs.States.{State as RunState, state-next, start-from, Keeps as KeepsAll, step-keeps}
 use Rattle.room.specs.Stacks.{after-step}
 use Rattle.room.proofs.Reached.{reached-all}
 use Rattle.room.proofs.Room.{reaches-room}
@@ -34,8 +34,8 @@ use Rattle.occurs.proofs.Meaning.{occurs-meaning}
 use Rattle.rule.specs.declared.side.Side.{Side as HeldSide}
 use Rattle.rule.specs.declared.Act.{Act}
 use Rattle.rule.specs.declared.Act.the-variants.{Done, Clash, Inside, Protection, Part, Parts, Renamed, Same, BindLeft, BindRight}
-use Rattle.rule.specs.Side.{groundIn, sideAt, sideHeld, wholeOf, Resolved}
-use Rattle.rule.specs.Rule.{Fits, Told, Free, Agrees, Decided}
+use Rattle.rule.specs.Side.{groundIn, sideAt, sideHeld, wholeOf, SideResolved}
+use Rattle.rule.specs.Rule.{RuleFits, OccursTold, Free, Agrees, Decided}
 use Rattle.rule.proofs.Ruling.{ruled, Names, names}
 use Rattle.perform.specs.declared.State.{State}
 use Rattle.perform.specs.Performed.{stepTold, Takes}
@@ -130,7 +130,7 @@ module _ {s : List ℕ} {places : List (List ℕ)} {nodeVariables : List ℕ} {A
   run-state : RunState ground (problem .variables) (readable .named-nodes) (equationOf A e ∷ stackOf A waiting (state .waiting)) bs (h .demanded)
   run-state =
       reached-all (RunState ground (problem .variables) (readable .named-nodes)) (state-next ground (problem .variables) (readable .named-nodes))
-      (start problem readable (member w)) (h .reached)
+      (start-from problem readable (member w) (h .circleless)) (h .reached)
 
   meant : Meant ground (problem .variables) bs (meaning (problem .nodes) bs)
   meant = run-state .meant
@@ -154,20 +154,20 @@ module _ {s : List ℕ} {places : List (List ℕ)} {nodeVariables : List ℕ} {A
 
   -- What the occurs check says of an unbound variable.
   told : (X m : ℕ) (P : Table) → member bound X ≡ false → m < length (problem .nodes)
-      → Told bound (made .made) nodeVariables m X (occursSide ground bs X (record { images = P; node = m }))
+      → OccursTold bound (made .made) nodeVariables m X (occursSide ground bs X (record { images = P; node = m }))
   told X m P u t b a =
       occurs-meaning meant nodeVariables values-stand (h .footing .filled) (record { images = P; node = m }) t X
       (valueless A made (state .count) bound (h .keeps) X u) b a
 
   -- The form of a resolved side is no suspension of a bound variable.
-  free : (before : Side) (x : HeldSide) → Resolved s A made bound (state .count) before x → Free bound (x .form)
+  free : (before : Side) (x : HeldSide) → SideResolved s A made bound (state .count) before x → Free bound (x .form)
   free before x i =
       let settled = rw (← (i .side (member w) (h .keeps)), top-here s (member w) (sideHeld A x)) at (meant .settles before) in
       rw (i .form) (free-form A made (state .count) bound (h .keeps) (problem .atoms) (Store.table A (x .images)) (formNow s (x .node .0)) settled)
 
   -- The sides as they are resolved, and what is told of them.
-  module _ {l r : HeldSide} {act : Act} (i : Resolved s A made bound (state .count) (sideAt A (e .left) (e .«left_node»)) l)
-      (j : Resolved s A made bound (state .count) (sideAt A (e .right) (e .«right_node»)) r)
+  module _ {l r : HeldSide} {act : Act} (i : SideResolved s A made bound (state .count) (sideAt A (e .left) (e .«left_node»)) l)
+      (j : SideResolved s A made bound (state .count) (sideAt A (e .right) (e .«right_node»)) r)
       (d : Decided A (member w) bound (made .made) nodeVariables l r act) where
     abbrev left-form : Node
     left-form = formNow s (l .node .0)
@@ -180,7 +180,7 @@ module _ {s : List ℕ} {places : List (List ℕ)} {nodeVariables : List ℕ} {A
     agree X m p u (inr q) = told X (m .0) (Store.table A p) u (rw q (j .there))
 
     -- The rule that is told is one that fits.
-    fits : Fits (member w) (occursSide ground bs) (sideHeld A l) (sideHeld A r) (formTold left-form) (formTold right-form) act
+    fits : RuleFits (member w) (occursSide ground bs) (sideHeld A l) (sideHeld A r) (formTold left-form) (formTold right-form) act
     fits = rw (i .form, j .form) at (d (occursSide ground bs) agree (free _ l i) (free _ r j))
 
     -- What is told is the definition's step.
@@ -208,7 +208,7 @@ module _ {s : List ℕ} {places : List (List ℕ)} {nodeVariables : List ℕ} {A
     room : (qs : List (Side × Side)) (b : List (ℕ × Side)) (c : List (ℕ × Subject)) → stepTold s A l r act ≡ goes-on qs b c
         → length qs + state .waiting ≤ 576
     room qs b c q =
-        let k = reaches-room problem readable (member w) _ _ _ (after-step (h .reached) (sym step-is ∙ q)) in
+        let k = reaches-room problem readable (member w) (h .circleless) _ _ _ (after-step (h .reached) (sym step-is ∙ q)) in
         omega (
           arith,
           k,

@@ -4,25 +4,25 @@ use mathlib.Core.Path.{_≡_}
 use mathlib.Core.List.{List, []}
 use lib.ListN.{length}
 use Rattle.sets.specs.Bits.{member}
+use Rattle.numbers.specs.declared.Given.{Given}
+use Rattle.problem.specs.Problem.{Problem}
 use Rattle.problem.specs.Held.{problemOf}
 use Rattle.problem.specs.Look.{Standing}
 use Rattle.problem.specs.Told.{countsOf}
 use Rattle.problem.specs.declared.Counts.{Counts}
 use Rattle.run.specs.Meaning.{Binding}
 use Rattle.run.specs.Run.{Demand, End, limit, refused, finished, run, equationsFrom}
+use Rattle.run.specs.Circle.{Circleless}
+use Rattle.run.specs.Answer.{refusalNumber}
 use Rattle.stack.specs.Stack.{Stack, stackOf}
-use Rattle.bindings.specs.Bindings.{bindingsOf, Keeps}
+use Rattle.bindings.specs.Bindings.{Bindings, bindingsOf, Keeps}
 use Rattle.demands.specs.Demands.{Sheet, Raised}
 use Rattle.occurs.specs.Reached.{FilledBelow}
 use Rattle.rule.specs.Side.{groundIn}
-use Rattle.perform.specs.Performed.{Tables, refusalTold}
+use Rattle.perform.specs.Performed.{StepTables}
 use Rattle.perform.specs.declared.State.{State}
-use Rattle.perform.specs.declared.Refusal.{Refusal}
-use Rattle.perform.specs.declared.Refusal.the-variants as refusal
 use Rattle.machine.specs.Step.{Footing}
 use Rattle.machine.specs.declared.verdict.Ran.{Ran}
-use Rattle.machine.specs.declared.verdict.Verdict.{Verdict}
-use Rattle.machine.specs.declared.verdict.Verdict.the-variants as verdict
 
 -- What a run leans on: the problem that was read stands in the input, c has its numbers, and the sets of its nodes' variables are there.
 pub record Ready (s : List ℕ) (places : List (List ℕ)) (nodeVariables : List ℕ) (c : Counts) : Type 0 where
@@ -30,34 +30,39 @@ pub record Ready (s : List ℕ) (places : List (List ℕ)) (nodeVariables : List
   pub counts : c ≡ countsOf (problemOf s)
   pub filled : FilledBelow (problemOf s .nodes) nodeVariables (length (problemOf s .nodes))
 
--- The start: the problem's equations wait, nothing is bound, and nothing is demanded yet.
-pub record Began (s : List ℕ) (places : List (List ℕ)) (nodeVariables : List ℕ) (A : ℕ) (waiting : Stack) (asked : Sheet) (start : State) : Type 0 where
+-- Bindings that a run can start from, as the tables have them: whoever made them, in whatever order, they have no circle.
+pub record Founded (p : Problem) (t : Bindings) (count bound : ℕ) : Type 0 where
+  pub keeps : Keeps (t .made) count bound
+  pub circleless : Circleless (p .atoms) (p .variables) (p .nodes) (bindingsOf (p .atoms) t count)
+
+-- The start: the problem's equations wait, and nothing is demanded yet.
+pub record Began (s : List ℕ) (places : List (List ℕ)) (nodeVariables : List ℕ) (A : ℕ) (waiting : Stack) (made : Bindings) (asked : Sheet)
+    (start : State) : Type 0 where
   pub footing : Footing s places nodeVariables A
+  pub founded : Founded (problemOf s) made (start .count) (start .bound .0)
   pub stack : stackOf A waiting (start .waiting) ≡ equationsFrom (problemOf s .atoms) 0 (problemOf s .equations)
-  pub free : start .bound .0 ≡ 0
-  pub none : start .count ≡ 0
   pub raised : Raised (length (problemOf s .nodes)) (problemOf s .variables) [] asked
 
--- The definition's run, with the variables of the set w protected and at most L steps.
-abbrev pub endOf : List ℕ → ℕ → ℕ → End
-endOf s w L = run (groundIn s (member w)) L (equationsFrom (problemOf s .atoms) 0 (problemOf s .equations)) [] []
+-- The definition's run from the bindings `first`, with the variables of the set w protected and at most L steps.
+abbrev pub endOf : List ℕ → ℕ → ℕ → List Binding → End
+endOf s w L first = run (groundIn s (member w)) L (equationsFrom (problemOf s .atoms) 0 (problemOf s .equations)) first []
+
+-- The number and place that an end has by itself: 0 where the run is finished, and what comes of it is not known yet.
+abbrev pub endGiven : End → Given
+endGiven (limit n) = record { number = 8; place = n }
+endGiven (refused why n) = record { number = refusalNumber why; place = n }
+endGiven (finished k bs ds) = record { number = 0; place = 0 }
 
 -- An accepted run: the steps taken, and the bindings and the demands in the tables.
-pub record Finished (s : List ℕ) (A L : ℕ) (t : Tables) (r : Ran) (k : ℕ) (bs : List Binding) (ds : List Demand) : Type 0 where
-  pub verdict : r .verdict ≡ verdict.Accepted
+pub record RunFinished (s : List ℕ) (A L : ℕ) (t : StepTables) (r : Ran) (k : ℕ) (bs : List Binding) (ds : List Demand) : Type 0 where
+  pub verdict : r .verdict ≡ endGiven (finished k bs ds)
   pub taken : r .steps + k ≡ L
   pub made : bindingsOf A (t .bindings) (r .count) ≡ bs
   pub keeps : Keeps (t .bindings .made) (r .count) (r .bound .0)
   pub raised : Raised (length (problemOf s .nodes)) (problemOf s .variables) ds (t .sheet)
 
--- A refusal of the equation n, as a verdict.
-abbrev pub refusedAs : Refusal → ℕ → Verdict
-refusedAs refusal.Clash n = verdict.Clash n
-refusedAs refusal.Inside n = verdict.Inside n
-refusedAs refusal.Protection n = verdict.Protection n
-
 -- What each end of the definition's run is in code.
-abbrev pub Ended : List ℕ → ℕ → ℕ → Tables → Ran → End → Type 0
-Ended s A L t r (limit n) = r .verdict ≡ verdict.Limit n
-Ended s A L t r (refused why n) = r .verdict ≡ refusedAs (refusalTold why) n
-Ended s A L t r (finished k bs ds) = Finished s A L t r k bs ds
+abbrev pub RunEnded : List ℕ → ℕ → ℕ → StepTables → Ran → End → Type 0
+RunEnded s A L t r (limit n) = r .verdict ≡ endGiven (limit n)
+RunEnded s A L t r (refused why n) = r .verdict ≡ endGiven (refused why n)
+RunEnded s A L t r (finished k bs ds) = RunFinished s A L t r k bs ds

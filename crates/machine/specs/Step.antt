@@ -8,6 +8,7 @@ use Rattle.problem.specs.Held.{problemOf}
 use Rattle.problem.specs.Look.{Standing}
 use Rattle.run.specs.Meaning.{Binding}
 use Rattle.run.specs.Run.{Equation, Demand, Step, step, equationsFrom}
+use Rattle.run.specs.Circle.{Circleless}
 use Rattle.room.specs.Stacks.{Reaches}
 use Rattle.stack.specs.Stack.{Stack, stackOf, equationOf}
 use Rattle.stack.specs.declared.Pending.{Pending}
@@ -16,9 +17,9 @@ use Rattle.bindings.specs.Bindings.{Bindings, bindingsOf, Keeps}
 use Rattle.rule.specs.Side.{groundIn}
 use Rattle.perform.specs.declared.State.{State}
 
--- What the run of the problem comes to from its start, with the variables of the set w protected.
-abbrev pub FromStart : List ℕ → ℕ → List Equation → List Binding → List Demand → Type 0
-FromStart s w es bs ds = Reaches (groundIn s (member w)) (equationsFrom (problemOf s .atoms) 0 (problemOf s .equations)) [] [] es bs ds
+-- What the run of the problem comes to from its start with the bindings `first`, and the variables of the set w protected.
+abbrev pub FromStart : List ℕ → ℕ → List Binding → List Equation → List Binding → List Demand → Type 0
+FromStart s w first es bs ds = Reaches (groundIn s (member w)) (equationsFrom (problemOf s .atoms) 0 (problemOf s .equations)) first [] es bs ds
 
 -- What every step leans on: the problem that was read stands in the input, A is its number of atoms, and the sets of its nodes' variables are there.
 pub record Footing (s : List ℕ) (places : List (List ℕ)) (nodeVariables : List ℕ) (A : ℕ) : Type 0 where
@@ -31,8 +32,10 @@ pub record Present (s : List ℕ) (places : List (List ℕ)) (nodeVariables : Li
     (e : Pending) : Type 0 where
   pub footing : Footing s places nodeVariables A
   pub keeps : Keeps (made .made) (state .count) (state .bound .0)
+  pub first : List Binding
+  pub circleless : Circleless (problemOf s .atoms) (problemOf s .variables) (problemOf s .nodes) first
   pub demanded : List Demand
-  pub reached : FromStart s w (equationOf A e ∷ stackOf A waiting (state .waiting)) (bindingsOf A made (state .count)) demanded
+  pub reached : FromStart s w first (equationOf A e ∷ stackOf A waiting (state .waiting)) (bindingsOf A made (state .count)) demanded
 
 -- The definition's step of that equation.
 abbrev pub stepHere : List ℕ → ℕ → ℕ → Bindings → State → Pending → Step

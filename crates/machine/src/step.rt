@@ -37,15 +37,15 @@ pub fn step(
     e: Pending,
 ) -> Stepped
     requires { ⌜ Present (now s) (now places) (now «node_variables») atoms (protected .0)
-        (pending.tables (now heads) (now images)) (bindings.tables (now made) (now values)) state e ⌝ }
+        (pending.stackTables (now heads) (now images)) (bindings.bindingTables (now made) (now values)) state e ⌝ }
     ensures { λ z. ⌜ Performed (now (s .entry)) atoms (e .number)
-        (tablesOf (pending.tables (now (heads .entry)) (now (images .entry)))
-        (bindings.tables (now (made .entry)) (now (values .entry)))
+        (tablesOf (pending.stackTables (now (heads .entry)) (now (images .entry)))
+        (bindings.bindingTables (now (made .entry)) (now (values .entry)))
         (sheet (now (asked .entry)) (now (firsts .entry)))) state
-        (tablesOf (pending.tables (now (heads .exit)) (now (images .exit)))
-        (bindings.tables (now (made .exit)) (now (values .exit)))
+        (tablesOf (pending.stackTables (now (heads .exit)) (now (images .exit)))
+        (bindings.bindingTables (now (made .exit)) (now (values .exit)))
         (sheet (now (asked .exit)) (now (firsts .exit)))) z
-        (stepHere (now (s .entry)) atoms (protected .0) (bindings.tables (now (made .entry)) (now (values .entry))) state e) ⌝ }
+        (stepHere (now (s .entry)) atoms (protected .0) (bindings.bindingTables (now (made .entry)) (now (values .entry))) state e) ⌝ }
 {
     let p = e.left;
     let l = e.left_node;

@@ -1,18 +1,21 @@
 // The run: the problem's equations wait, and steps are taken until none is left, the limit is reached or a step refuses.
-ghost use mathlib.Core.Path.{_≡_};
 ghost use Rattle.stack.specs.Stack as pending;
 ghost use Rattle.bindings.specs.Bindings as bindings;
 ghost use Rattle.demands.specs.Demands.{sheet};
 ghost use Rattle.perform.specs.Performed.{tablesOf};
-ghost use Rattle.machine.specs.Run.{Began, Ready, refusedAs, Ended, endOf};
+ghost use Rattle.problem.specs.Held.{problemOf};
+ghost use Rattle.machine.specs.Run.{Founded, Began, Ready, RunEnded, endOf};
 use crate::step::step;
 use bindings::Made;
 use bindings::Values;
 use demands::Asked;
 use demands::Firsts;
+use numbers::ACCEPTED;
+use numbers::Given;
+use numbers::LIMIT;
+use numbers::give;
 use occurs::NodeVariables;
 use perform::Outcome;
-use perform::Refusal;
 use perform::State;
 use problem::Counts;
 use problem::Places;
@@ -20,35 +23,16 @@ use sets::VariableSet;
 use stack::Heads;
 use stack::Images;
 
-// How a run ends: accepted, limit (8), clash (9), a variable inside its own value (10), protected (11), with the number of the equation.
-pub enum Verdict {
-    Accepted,
-    Limit(u8),
-    Clash(u8),
-    Inside(u8),
-    Protection(u8),
-}
-
-// With it the steps taken, which variables are bound, and how many.
+// How a run ends: 0 (accepted), 8 (limit), 9 (clash), 10 (a variable inside its own value) or 11 (protected), each but the first with the number of the
+// equation. With it the steps taken, which variables are bound, and how many.
 pub struct Ran {
-    pub verdict: Verdict,
+    pub verdict: Given,
     pub steps: u32,
     pub bound: VariableSet,
     pub count: usize,
 }
 
-// A refusal of the equation of that number.
-fn refused(why: Refusal, number: u8) -> Verdict
-    ensures { λ r. ⌜ r ≡ refusedAs why number ⌝ }
-{
-    match why {
-        Refusal::Clash => Verdict::Clash(number),
-        Refusal::Inside => Verdict::Inside(number),
-        Refusal::Protection => Verdict::Protection(number),
-    }
-}
-
-// "Take the top, if fewer than L steps have been taken", from the start on, where nothing is bound or demanded yet.
+// "Take the top, if fewer than L steps have been taken", from the start on, where nothing is demanded yet.
 fn go(
     s: &[u8],
     places: &Places,
@@ -64,24 +48,25 @@ fn go(
     start: State,
     limit: u32,
 ) -> Ran
-    requires { ⌜ Began (now s) (now places) (now «node_variables») atoms (pending.tables (now heads) (now images))
-        (sheet (now asked) (now firsts)) start ⌝ }
-    ensures { λ z. ⌜ Ended (now (s .entry)) atoms limit
-        (tablesOf (pending.tables (now (heads .exit)) (now (images .exit)))
-        (bindings.tables (now (made .exit)) (now (values .exit)))
+    requires { ⌜ Began (now s) (now places) (now «node_variables») atoms (pending.stackTables (now heads) (now images))
+        (bindings.bindingTables (now made) (now values)) (sheet (now asked) (now firsts)) start ⌝ }
+    ensures { λ z. ⌜ RunEnded (now (s .entry)) atoms limit
+        (tablesOf (pending.stackTables (now (heads .exit)) (now (images .exit)))
+        (bindings.bindingTables (now (made .exit)) (now (values .exit)))
         (sheet (now (asked .exit)) (now (firsts .exit)))) z
-        (endOf (now (s .entry)) (protected .0) limit) ⌝ }
+        (endOf (now (s .entry)) (protected .0) limit
+        (bindings.bindingsOf atoms (bindings.bindingTables (now (made .entry)) (now (values .entry))) (start .count))) ⌝ }
 {
     let mut state = start;
     let mut steps: u32 = 0;
     let v = loop {
         if state.waiting == 0 {
-            break Verdict::Accepted;
+            break give(ACCEPTED, 0);
         }
         state.waiting -= 1;
         let e = stack::top(heads, images, state.waiting);
         if limit <= steps {
-            break Verdict::Limit(e.number);
+            break give(LIMIT, e.number as usize);
         }
         let z = step(
             s,
@@ -101,8 +86,8 @@ fn go(
         steps += 1;
         state = z.state;
         let outcome = z.outcome;
-        if let Outcome::Refuses(why) = outcome {
-            break refused(why, e.number);
+        if let Outcome::Refuses(number) = outcome {
+            break give(number, e.number as usize);
         }
     };
     Ran {
@@ -113,7 +98,8 @@ fn go(
     }
 }
 
-// The run of the problem that the input is, with the variables of a set protected and at most its limit of steps. The tables may hold anything.
+// The run of the problem that the input is, from the bindings that the tables have, whoever made them and in whatever order, with the variables of a set
+// protected and at most the problem's limit of steps. The other tables may hold anything.
 pub fn run(
     s: &[u8],
     c: Counts,
@@ -126,21 +112,25 @@ pub fn run(
     asked: &mut Asked,
     firsts: &mut Firsts,
     protected: VariableSet,
+    bound: VariableSet,
+    count: usize,
 ) -> Ran
     requires { ⌜ Ready (now s) (now places) (now «node_variables») c ⌝ }
-    ensures { λ z. ⌜ Ended (now (s .entry)) (c .atoms) (c .limit)
-        (tablesOf (pending.tables (now (heads .exit)) (now (images .exit)))
-        (bindings.tables (now (made .exit)) (now (values .exit)))
+    requires { ⌜ Founded (problemOf (now s)) (bindings.bindingTables (now made) (now values)) count (bound .0) ⌝ }
+    ensures { λ z. ⌜ RunEnded (now (s .entry)) (c .atoms) (c .limit)
+        (tablesOf (pending.stackTables (now (heads .exit)) (now (images .exit)))
+        (bindings.bindingTables (now (made .exit)) (now (values .exit)))
         (sheet (now (asked .exit)) (now (firsts .exit)))) z
-        (endOf (now (s .entry)) (protected .0) (c .limit)) ⌝ }
+        (endOf (now (s .entry)) (protected .0) (c .limit)
+        (bindings.bindingsOf (c .atoms) (bindings.bindingTables (now (made .entry)) (now (values .entry))) count)) ⌝ }
 {
     let equations = c.equations as usize;
     demands::clear(asked, c.nodes as usize, c.variables as usize);
     stack::start(s, places, heads, images, equations);
     let start = State {
         waiting: equations,
-        bound: VariableSet::empty(),
-        count: 0,
+        bound: bound,
+        count: count,
     };
     go(
         s,

@@ -16,7 +16,7 @@ use Rattle.run.specs.Meaning.{tree, Side, sideTree, Binding, meaningAfter, mean
 use Rattle.run.specs.Run.{Ground, valueOf}
 use Rattle.run.proofs.Questions.{occursIn-true, occursIn-false}
 use Rattle.run.proofs.Bindings.{Meant}
-use Rattle.occurs.specs.Reached.{FilledBelow, Reached, inside, through, Answered, Rooted}
+use Rattle.occurs.specs.Reached.{FilledBelow, VariableReached, inside, through, OccursAnswered, Rooted}
 use Rattle.occurs.proofs.Sets.{apart}
 
 -- ---- a set that is closed under bindings keeps its variables' meanings
@@ -84,14 +84,14 @@ module _ {g : Ground} {variables : ℕ} {bs : List Binding} (m : Meant g variabl
   whole = substitute σ (sideTree (g .nodes) t)
 
   -- What a reached variable means is part of what the side means.
-  reached-meaning : (Y : ℕ) → Reached bound made nodeVariables (getD nodeVariables (t .node) 0) Y → (Z : ℕ) → Occurs Z (σ Y) → Occurs Z whole
+  reached-meaning : (Y : ℕ) → VariableReached bound made nodeVariables (getD nodeVariables (t .node) 0) Y → (Z : ℕ) → Occurs Z (σ Y) → Occurs Z whole
   reached-meaning Y (inside o) Z z = occurs-substituted σ Z Y (sideTree (g .nodes) t) (set-occurs (g .nodes) nodeVariables filled t there Y o) z
   reached-meaning Y (through {Y = W} r b o) Z z =
       let (v, e, q) = rooted .valued W b in
       let i : Occurs Y (sideTree (g .nodes) v) = set-occurs (g .nodes) nodeVariables filled v (m .fits W v e .there) Y (rw q at o) in
       reached-meaning W r Z (rw (m .worth W v e) (occurs-substituted σ Z Y (sideTree (g .nodes) v) i z))
 
-  module _ (X : ℕ) (r : Bool) (a : Answered bound made nodeVariables (t .node) X r) where
+  module _ (X : ℕ) (r : Bool) (a : OccursAnswered bound made nodeVariables (t .node) X r) where
     -- The set of the reached ones is closed under each binding.
     closed-binding : (b : Binding) → List·Memᴰ b bs → ClosedAt (g .nodes) (λ Y. member (a .set) Y ≡ true) b
     closed-binding b i U y o =
@@ -112,7 +112,7 @@ module _ {g : Ground} {variables : ℕ} {bs : List Binding} (m : Meant g variabl
     reached-occurs free p = reached-meaning X (a .closure .reached X p) X (rw (m .free X free) refl)
 
   -- "if X occurs in the right side, looked at through all bindings"
-  pub occurs-meaning : (X : ℕ) → valueOf bs X ≡ none → (r : Bool) → Answered bound made nodeVariables (t .node) X r → r ≡ occursIn X whole
+  pub occurs-meaning : (X : ℕ) → valueOf bs X ≡ none → (r : Bool) → OccursAnswered bound made nodeVariables (t .node) X r → r ≡ occursIn X whole
   occurs-meaning X free r a =
       a .answer
       ∙ by-member (a .set) X

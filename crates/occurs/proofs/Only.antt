@@ -8,7 +8,7 @@ use Rattle.names.proofs.Equal.{by-lt}
 use Rattle.sets.specs.Bits.{member}
 use Rattle.sets.proofs.Bits.{by-test, sets-extensional}
 use Rattle.problem.specs.Problem.{Node}
-use Rattle.occurs.specs.Reached.{Filled, Reached, inside, through, Closure, Answered}
+use Rattle.occurs.specs.Reached.{Filled, VariableReached, inside, through, Closure, OccursAnswered}
 use Rattle.occurs.proofs.Sets.{apart}
 
 alike : (a b : Bool) → (a ≡ true → b ≡ true) → (b ≡ true → a ≡ true) → a ≡ b
@@ -16,7 +16,7 @@ alike a b f g = by-test b (λ q. g q ∙ sym q) (λ q. by-test a (λ p. apart (f
 
 module _ {bound : ℕ} {made : List (List ℕ)} (nodeVariables : List ℕ) {start : ℕ} where
   -- A closure has all that is reached.
-  closure-has : {w : ℕ} → Closure bound made nodeVariables start w → (X : ℕ) → Reached bound made nodeVariables start X → member w X ≡ true
+  closure-has : {w : ℕ} → Closure bound made nodeVariables start w → (X : ℕ) → VariableReached bound made nodeVariables start X → member w X ≡ true
   closure-has c X (inside m) = c .holds X m
   closure-has c X (through {Y = Y} r b m) = c .closed X Y (closure-has c Y r) b m
 
@@ -31,7 +31,7 @@ module _ {bound : ℕ} {made : List (List ℕ)} (nodeVariables : List ℕ) {star
 
 -- `occurs` gives one answer.
 pub answered-only : {bound : ℕ} {made : List (List ℕ)} (nodeVariables : List ℕ) {n X : ℕ} {q r : Bool}
-    → Answered bound made nodeVariables n X q → Answered bound made nodeVariables n X r → q ≡ r
+    → OccursAnswered bound made nodeVariables n X q → OccursAnswered bound made nodeVariables n X r → q ≡ r
 answered-only nodeVariables {X = X} a b = a .answer ∙ closure-members nodeVariables (a .closure) (b .closure) X ∙ sym (b .answer)
 
 -- `fill` leaves one content in every row, for rows of 64 bits.

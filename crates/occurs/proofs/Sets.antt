@@ -41,7 +41,7 @@ use Rattle.run.proofs.Trees.{built, tree-built}
 use Rattle.names.specs.declared.Atom as names-atom
 use Rattle.names.specs.declared.Variable as names-variable
 use Rattle.names.specs.declared.NodeId.{NodeId}
-use Rattle.occurs.specs.Reached.{VariablesOf, FilledBelow, behind, Reached, inside, through, Closure}
+use Rattle.occurs.specs.Reached.{VariablesOf, FilledBelow, behind, VariableReached, inside, through, Closure}
 
 or-false : (b : Bool) → b || false ≡ b
 or-false true = refl
@@ -117,7 +117,7 @@ pub record Looking (bound : ℕ) (made : List (List ℕ)) (nodeVariables : List 
   pub within : (Y : ℕ) → member waiting Y ≡ true → member bound Y ≡ true
   pub holds : (X : ℕ) → member start X ≡ true → member reach X ≡ true
   pub looked : (X Y : ℕ) → member bound Y ≡ true → member waiting Y ≡ false → member (behind made nodeVariables Y) X ≡ true → member reach X ≡ true
-  pub reached : (X : ℕ) → member reach X ≡ true → Reached bound made nodeVariables start X
+  pub reached : (X : ℕ) → member reach X ≡ true → VariableReached bound made nodeVariables start X
 
 module _ {bound : ℕ} {made : List (List ℕ)} (nodeVariables : List ℕ) {start : ℕ} where
   pub looking-none : bound < 2 ^ 64 → Looking bound made nodeVariables start bound start

@@ -29,19 +29,19 @@ abbrev pub behind : List (List ℕ) → List ℕ → ℕ → ℕ
 behind made nodeVariables Y = getD nodeVariables (nodeOf made Y) 0
 
 -- A variable is reached from a set of variables if it is in it, or occurs in the node that a bound variable which is reached has for its value.
-pub data Reached (bound : ℕ) (made : List (List ℕ)) (nodeVariables : List ℕ) (start : ℕ) : ℕ → Type 0 where
-  inside : {X : ℕ} → member start X ≡ true → Reached bound made nodeVariables start X
-  through : {X Y : ℕ} → Reached bound made nodeVariables start Y → member bound Y ≡ true → member (behind made nodeVariables Y) X ≡ true
-      → Reached bound made nodeVariables start X
+pub data VariableReached (bound : ℕ) (made : List (List ℕ)) (nodeVariables : List ℕ) (start : ℕ) : ℕ → Type 0 where
+  inside : {X : ℕ} → member start X ≡ true → VariableReached bound made nodeVariables start X
+  through : {X Y : ℕ} → VariableReached bound made nodeVariables start Y → member bound Y ≡ true → member (behind made nodeVariables Y) X ≡ true
+      → VariableReached bound made nodeVariables start X
 
 -- The set of those that are reached: it has all of the start, it is closed under bindings, and it has no others.
 pub record Closure (bound : ℕ) (made : List (List ℕ)) (nodeVariables : List ℕ) (start w : ℕ) : Type 0 where
   pub holds : (X : ℕ) → member start X ≡ true → member w X ≡ true
   pub closed : (X Y : ℕ) → member w Y ≡ true → member bound Y ≡ true → member (behind made nodeVariables Y) X ≡ true → member w X ≡ true
-  pub reached : (X : ℕ) → member w X ≡ true → Reached bound made nodeVariables start X
+  pub reached : (X : ℕ) → member w X ≡ true → VariableReached bound made nodeVariables start X
 
 -- The answer for the variable X and node n: whether X is in the set of those that are reached from n's.
-pub record Answered (bound : ℕ) (made : List (List ℕ)) (nodeVariables : List ℕ) (n X : ℕ) (r : Bool) : Type 0 where
+pub record OccursAnswered (bound : ℕ) (made : List (List ℕ)) (nodeVariables : List ℕ) (n X : ℕ) (r : Bool) : Type 0 where
   pub set : ℕ
   pub closure : Closure bound made nodeVariables (getD nodeVariables n 0) set
   pub answer : r ≡ member set X

@@ -7,8 +7,9 @@ ghost use lib.ListN.{length, getD, set};
 ghost use Rattle.problem.specs.Held.{problemOf};
 ghost use Rattle.problem.specs.Look.{Standing};
 ghost use Rattle.bindings.specs.Bindings.{NodesThere};
-ghost use Rattle.occurs.specs.Reached.{VariablesOf, FilledBelow, Filled, Closure, Answered};
+ghost use Rattle.occurs.specs.Reached.{VariablesOf, FilledBelow, Filled, Closure, OccursAnswered};
 use bindings::Made;
+use names::MOST_NODES;
 use names::NodeId;
 use names::Variable;
 use problem::Form;
@@ -16,9 +17,9 @@ use problem::Places;
 use sets::VariableSet;
 
 // By node the set of the variables that occur in it.
-pub type NodeVariables = [u64; 512];
+pub type NodeVariables = [u64; MOST_NODES];
 
-pub const EMPTY_NODE_VARIABLES: NodeVariables = [0; 512];
+pub const EMPTY_NODE_VARIABLES: NodeVariables = [0; MOST_NODES];
 
 // The set that the table has for a node.
 fn variables(node_variables: &NodeVariables, node: NodeId) -> VariableSet
@@ -111,7 +112,7 @@ pub fn occurs(
     node: NodeId,
 ) -> bool
     requires { ⌜ (node .0 < 512) × NodesThere 512 (now made) (bound .0) ⌝ }
-    ensures { λ r. ⌜ Answered (bound .0) (now (made .entry)) (now («node_variables» .entry)) (node .0) (x .0) r ⌝ }
+    ensures { λ r. ⌜ OccursAnswered (bound .0) (now (made .entry)) (now («node_variables» .entry)) (node .0) (x .0) r ⌝ }
 {
     let reach = reaches(node_variables, made, bound, node);
     reach.has(x)

@@ -15,6 +15,7 @@ use Rattle.sets.specs.declared.VariableSet.{VariableSet}
 use Rattle.problem.specs.Held.{problemOf}
 use Rattle.run.specs.Meaning.{Side}
 use Rattle.run.specs.Run.{Equation, of-variable, of-side, under, Refusal}
+use Rattle.run.specs.Answer.{refusalNumber}
 use Rattle.stack.specs.Stack.{Stack, stackOf, equationOf, Pushed}
 use Rattle.stack.specs.declared.Pending.{Pending}
 use Rattle.bindings.specs.Bindings.{Bindings, bindingsOf, Keeps, Added, sideOf, bindingOf}
@@ -25,17 +26,17 @@ use Rattle.rule.proofs.Resolving.{length-whole}
 use Rattle.perform.specs.declared.State.{State}
 use Rattle.perform.specs.declared.Stepped.{Stepped}
 use Rattle.perform.specs.declared.Outcome.the-variants.{Refuses}
-use Rattle.perform.specs.Performed.{Tables, tablesOf, goneTo, Grown, DisagreementRaised, heldValue, BoundTo, refusalTold, Refused, GoneOn}
+use Rattle.perform.specs.Performed.{StepTables, tablesOf, goneTo, StackGrown, DisagreementRaised, heldValue, BoundTo, Refused, GoneOn}
 
 -- ---- equations
 
 pub grown-one : {n : ℕ} {before after : Stack} {e : Pending} → Pushed before n e after → (A : ℕ) → A ≤ 32
-    → Grown A (e .number) ((sideAt A (e .left) (e .«left_node»), sideAt A (e .right) (e .«right_node»)) ∷ []) before n after (n + 1)
+    → StackGrown A (e .number) ((sideAt A (e .left) (e .«left_node»), sideAt A (e .right) (e .«right_node»)) ∷ []) before n after (n + 1)
 unfolding equationOf
 grown-one h A few = h .stack A few
 
-pub grown-two : (A number n : ℕ) (s t u v : Side) (before between after : Stack) → Grown A number ((u, v) ∷ []) before n between (n + 1)
-    → Grown A number ((s, t) ∷ []) between (n + 1) after (n + 1 + 1) → Grown A number ((s, t) ∷ (u, v) ∷ []) before n after (n + 2)
+pub grown-two : (A number n : ℕ) (s t u v : Side) (before between after : Stack) → StackGrown A number ((u, v) ∷ []) before n between (n + 1)
+    → StackGrown A number ((s, t) ∷ []) between (n + 1) after (n + 1 + 1) → StackGrown A number ((s, t) ∷ (u, v) ∷ []) before n after (n + 2)
 grown-two A number n s t u v before between after f g =
     let e : n + 1 + 1 ≡ n + 2 = omega arith in
     ap (stackOf A after) (sym e) ∙ g ∙ ap (λ (l : List Equation). record { number = number; left = s; right = t } ∷ l) f
@@ -76,7 +77,7 @@ bound-to added is-value long gone = rw gone (record { added = rw is-value at add
 
 -- ---- what refuses
 
-pub refused-by : {why : Refusal} {t : Tables} {state : State} {r : Stepped} → r ≡ record { outcome = Refuses (refusalTold why); state = state }
+pub refused-by : {why : Refusal} {t : StepTables} {state : State} {r : Stepped} → r ≡ record { outcome = Refuses (refusalNumber why); state = state }
     → Refused why t state t r
 refused-by e = rw e (record { outcome = refl; stays = refl; tables = refl })
 
@@ -88,14 +89,14 @@ none-bound A k made = sym (append-nil (bindingsOf A made k))
 -- In a state whose set of bound variables and number belong to the bindings: nothing is bound, and the bindings stay.
 module _ {s : List ℕ} {A number : ℕ} {state : State} {made : Bindings} (keeps : Keeps (made .made) (state .count) (state .bound .0)) where
   pub gone-pushed : {qs : List (Side × Side)} {before after : Stack} {asked : Sheet} {n : ℕ} {r : Stepped} → r ≡ goneTo n (state .bound) (state .count)
-      → Grown A number qs before (state .waiting) after n
+      → StackGrown A number qs before (state .waiting) after n
       → GoneOn s A number qs [] [] (tablesOf before made asked) state (tablesOf after made asked) r
   gone-pushed gone pushed =
       rw gone (record { outcome = refl; stack = pushed; made = none-bound A (state .count) made; keeps = keeps; raised = λ ds raised. rw append-nil raised })
 
   pub gone-renamed : {u t : Side} {a : ℕ} {before after : Stack} {asked now-asked : Sheet} {r : Stepped} (b : ℕ)
       → r ≡ goneTo (state .waiting + 1) (state .bound) (state .count)
-      → Grown A number ((u, record { images = swappedAfter a b (t .images); node = t .node }) ∷ []) before (state .waiting) after (state .waiting + 1)
+      → StackGrown A number ((u, record { images = swappedAfter a b (t .images); node = t .node }) ∷ []) before (state .waiting) after (state .waiting + 1)
       → SideRaised a (t .images) (t .node) number asked now-asked
       → GoneOn s A number ((u, record { images = swappedAfter a b (t .images); node = t .node }) ∷ []) [] ((a, of-side t) ∷ [])
       (tablesOf before made asked) state (tablesOf after made now-asked) r

@@ -13,7 +13,7 @@ ghost use Rattle.stack.specs.Stack as pending;
 ghost use Rattle.bindings.specs.Bindings as bindings;
 ghost use Rattle.demands.specs.Demands.{sheet};
 ghost use Rattle.rule.specs.Side.{sideAt, wholeOf};
-ghost use Rattle.perform.specs.Performed.{tablesOf, goneTo, stepTold, Grown, DisagreementRaised, BoundTo, Hangs, Fit, Performed};
+ghost use Rattle.perform.specs.Performed.{tablesOf, goneTo, stepTold, StackGrown, DisagreementRaised, BoundTo, Hangs, Fit, Performed};
 use bindings::Made;
 use bindings::Value;
 use bindings::Values;
@@ -21,6 +21,9 @@ use demands::Asked;
 use demands::Firsts;
 use names::NodeId;
 use names::Variable;
+use numbers::CLASH;
+use numbers::INSIDE;
+use numbers::PROTECTED;
 use permutation::Permutation;
 use problem::Places;
 use rule::Act;
@@ -37,17 +40,10 @@ pub struct State {
     pub count: usize,
 }
 
-// Why a step refuses: 9, 10 or 11.
-pub enum Refusal {
-    Clash,
-    Inside,
-    Protection,
-}
-
-// How a step ends.
+// How a step ends: it goes on, or refuses with its number, 9, 10 or 11.
 pub enum Outcome {
     Goes,
-    Refuses(Refusal),
+    Refuses(u8),
 }
 
 // With it how far the run is then: if the step refuses, as far as before.
@@ -67,10 +63,10 @@ fn one_part(
     q: Permutation,
     k: NodeId,
 )
-    requires { ⌜ n < 576 ⌝ }
-    ensures { λ r. ⌜ ((A : ℕ) → A ≤ 32 → Grown A number ((sideAt A p m, sideAt A q k) ∷ [])
-        (pending.tables (now (heads .entry)) (now (images .entry))) n
-        (pending.tables (now (heads .exit)) (now (images .exit))) (n + 1)) ⌝ }
+    requires { ⌜ n < pending.mostWaiting ⌝ }
+    ensures { λ r. ⌜ ((A : ℕ) → A ≤ 32 → StackGrown A number ((sideAt A p m, sideAt A q k) ∷ [])
+        (pending.stackTables (now (heads .entry)) (now (images .entry))) n
+        (pending.stackTables (now (heads .exit)) (now (images .exit))) (n + 1)) ⌝ }
 {
     let e = Pending {
         number: number,
@@ -95,10 +91,10 @@ fn two_parts(
     k: NodeId,
     o: NodeId,
 )
-    requires { ⌜ n + 1 < 576 ⌝ }
-    ensures { λ r. ⌜ ((A : ℕ) → A ≤ 32 → Grown A number ((sideAt A p l, sideAt A q k) ∷ (sideAt A p m, sideAt A q o) ∷ [])
-        (pending.tables (now (heads .entry)) (now (images .entry))) n
-        (pending.tables (now (heads .exit)) (now (images .exit))) (n + 2)) ⌝ }
+    requires { ⌜ n + 1 < pending.mostWaiting ⌝ }
+    ensures { λ r. ⌜ ((A : ℕ) → A ≤ 32 → StackGrown A number ((sideAt A p l, sideAt A q k) ∷ (sideAt A p m, sideAt A q o) ∷ [])
+        (pending.stackTables (now (heads .entry)) (now (images .entry))) n
+        (pending.stackTables (now (heads .exit)) (now (images .exit))) (n + 2)) ⌝ }
 {
     one_part(heads, images, n, number, p, m, q, o);
     one_part(heads, images, n + 1, number, p, l, q, k);
@@ -172,8 +168,8 @@ fn bind(
         × bindings.Keeps (now made) (state .count) (state .bound .0) × (member (state .bound .0) (x .0) ≡ false) × (x .0 < 64) ⌝ }
     ensures { λ z. ⌜ BoundTo atoms number (x .0)
         (under (inverted (wholeOf (now (s .entry)) atoms (table atoms p) (m .0))) (sideAt atoms q k))
-        (bindings.tables (now (made .entry)) (now (values .entry))) state
-        (bindings.tables (now (made .exit)) (now (values .exit))) z ⌝ }
+        (bindings.bindingTables (now (made .entry)) (now (values .entry))) state
+        (bindings.bindingTables (now (made .exit)) (now (values .exit))) z ⌝ }
 {
     let outer = rule::side::whole(s, places, atoms, p, m);
     let back = permutation::invert(outer, atoms);
@@ -209,11 +205,11 @@ pub fn perform(
 ) -> Stepped
     requires { ⌜ Fit (now s) (now places) atoms state (now made) left right act ⌝ }
     ensures { λ z. ⌜ Performed (now (s .entry)) atoms number
-        (tablesOf (pending.tables (now (heads .entry)) (now (images .entry)))
-        (bindings.tables (now (made .entry)) (now (values .entry)))
+        (tablesOf (pending.stackTables (now (heads .entry)) (now (images .entry)))
+        (bindings.bindingTables (now (made .entry)) (now (values .entry)))
         (sheet (now (asked .entry)) (now (firsts .entry)))) state
-        (tablesOf (pending.tables (now (heads .exit)) (now (images .exit)))
-        (bindings.tables (now (made .exit)) (now (values .exit)))
+        (tablesOf (pending.stackTables (now (heads .exit)) (now (images .exit)))
+        (bindings.bindingTables (now (made .exit)) (now (values .exit)))
         (sheet (now (asked .exit)) (now (firsts .exit)))) z
         (stepTold (now (s .entry)) atoms left right act) ⌝ }
 {
@@ -226,9 +222,9 @@ pub fn perform(
     let count = state.count;
     match act {
         Act::Done => stays(Outcome::Goes, state),
-        Act::Clash => stays(Outcome::Refuses(Refusal::Clash), state),
-        Act::Inside => stays(Outcome::Refuses(Refusal::Inside), state),
-        Act::Protection => stays(Outcome::Refuses(Refusal::Protection), state),
+        Act::Clash => stays(Outcome::Refuses(CLASH), state),
+        Act::Inside => stays(Outcome::Refuses(INSIDE), state),
+        Act::Protection => stays(Outcome::Refuses(PROTECTED), state),
         Act::Part(m, k) => {
             one_part(heads, images, n, number, p, m, q, k);
             goes(n + 1, bound, count)

@@ -6,13 +6,14 @@ ghost use mathlib.Core.Path.{_≡_};
 ghost use Prim.Native.Nat.{_≤_};
 ghost use Rattle.permutation.specs.Swaps.{swapped, Within, swapsIn};
 ghost use Rattle.permutation.specs.Table.{image, identity, after, inverted, ofSwaps, swappedAfter, disagreement};
-ghost use Rattle.permutation.specs.Store.{table, ofTable, disagreeAt};
+ghost use Rattle.permutation.specs.Store.{table, ofTable};
 ghost use Rattle.sets.specs.Bits.{ofList};
 use names::Atom;
+use names::MOST_ATOMS;
 use sets::AtomSet;
 
 pub struct Permutation {
-    pub images: [u8; 32],
+    pub images: [u8; MOST_ATOMS],
 }
 
 // The permutation that sends each of n atoms to itself.
@@ -20,7 +21,9 @@ pub fn identity(n: usize) -> Permutation
     requires { ⌜ n ≤ 32 ⌝ }
     ensures { λ r. ⌜ r ≡ ofTable (identity n) ⌝ }
 {
-    let mut r = Permutation { images: [0; 32] };
+    let mut r = Permutation {
+        images: [0; MOST_ATOMS],
+    };
     let mut i: usize = 0;
     while i < n {
         r.images[i] = i as u8;
@@ -46,7 +49,9 @@ pub fn compose(p: Permutation, q: Permutation, n: usize) -> Permutation
     requires { ⌜ n ≤ 32 ⌝ }
     ensures { λ r. ⌜ r ≡ ofTable (after (table n p) (table n q)) ⌝ }
 {
-    let mut r = Permutation { images: [0; 32] };
+    let mut r = Permutation {
+        images: [0; MOST_ATOMS],
+    };
     let mut i: usize = 0;
     while i < n {
         let b = q.images[i];
@@ -66,7 +71,9 @@ pub fn invert(p: Permutation, n: usize) -> Permutation
     requires { ⌜ n ≤ 32 ⌝ }
     ensures { λ r. ⌜ r ≡ ofTable (inverted (table n p)) ⌝ }
 {
-    let mut r = Permutation { images: [0; 32] };
+    let mut r = Permutation {
+        images: [0; MOST_ATOMS],
+    };
     let mut i = n;
     while 0 < i {
         i -= 1;
@@ -99,7 +106,9 @@ pub fn swap_after(a: Atom, b: Atom, p: Permutation, n: usize) -> Permutation
     requires { ⌜ n ≤ 32 ⌝ }
     ensures { λ r. ⌜ r ≡ ofTable (swappedAfter (a .0) (b .0) (table n p)) ⌝ }
 {
-    let mut r = Permutation { images: [0; 32] };
+    let mut r = Permutation {
+        images: [0; MOST_ATOMS],
+    };
     let mut i: usize = 0;
     while i < n {
         let k = swap_atom(a, b, Atom(p.images[i]));
@@ -127,16 +136,6 @@ pub fn of_swaps(s: &[u8], n: usize) -> Permutation
         i += 2;
     }
     r
-}
-
-// Whether p and q send an atom to different atoms.
-pub fn disagree(p: Permutation, q: Permutation, n: usize, a: Atom) -> bool
-    requires { ⌜ n ≤ 32 ⌝ }
-    ensures { λ r. ⌜ r ≡ disagreeAt (table n p) (table n q) (a .0) ⌝ }
-{
-    let x = image(p, n, a);
-    let y = image(q, n, a);
-    x.0 != y.0
 }
 
 // The disagreement set.

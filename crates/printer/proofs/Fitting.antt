@@ -12,7 +12,7 @@ use borrow.Author.Tests.{eq-eqb, ne-eqb}
 use lib.ListN.{length, take, drop, length-append, length-take, length-drop}
 use lib.Seq.{take-all, take-at, length-take-le}
 use Rattle.names.proofs.Equal.{by-eq}
-use Rattle.field.specs.Field.{Field, cut, whole, front, byte, word, long, Bytes, Stands}
+use Rattle.field.specs.Field.{Field, cut, whole, front, byte, word, long, Bytes, FieldStands}
 use Rattle.field.proofs.Standing.{stands, bytes-take, bytes-drop, bytes-body}
 use Rattle.printer.specs.Placed.{pasted, reached, Placed}
 use Rattle.printer.specs.Lines.{decimal, spaced, images, acceptedWord, refusedWord, bindWord, freshWord, newline, acceptedLine, refusedLine, bindLine}
@@ -113,7 +113,7 @@ field-length tag s b k =
 
 -- And so do the lines of a field and of the rest, if those of the rest do.
 module _ (s : List ℕ) (b : Bytes s) (more : List ℕ → List ℕ) (short : (r : List ℕ) → Bytes r → length (more r) ≤ 4 * length r) where
-  one-length : (tag : ℕ) (body rest : List ℕ) → Stands s tag body rest → (t : Bool) → partFits tag (length body) ≡ t
+  one-length : (tag : ℕ) (body rest : List ℕ) → FieldStands s tag body rest → (t : Bool) → partFits tag (length body) ≡ t
       → length (cond t (fieldLine tag body ++ more rest) []) ≤ 4 * length s
   one-length tag body rest w false e = omega arith
   one-length tag body rest w true e =

@@ -3,9 +3,9 @@
 ghost use mathlib.Core.Path.{_≡_};
 ghost use mathlib.Core.Bool.{true};
 ghost use mathlib.Core.List.{[], _∷_};
-ghost use Prim.Native.Nat.{ℕ, _+_, _≤_, _<_};
-ghost use lib.ListN.{length, take, drop};
-ghost use Rattle.field.specs.Field.{byte, word, long};
+ghost use Prim.Native.Nat.{_+_, _<_};
+ghost use lib.ListN.{length};
+ghost use Rattle.field.specs.Field.{word};
 ghost use Rattle.printer.specs.Placed.{Placed};
 ghost use Rattle.layout.specs.Parts.{partFits};
 ghost use Rattle.printer.specs.Lines.{decimal, spaced, images, acceptedLine, refusedLine, bindLine, freshLine, fieldLine};

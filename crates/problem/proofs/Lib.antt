@@ -1,13 +1,8 @@
 pub mod Readable
-pub mod Fields
-pub mod Saying
 pub mod Located
 pub mod Looking
-pub mod Clearing
-pub mod Holding
-pub mod Onward
-pub mod Opened
+pub mod Repeated
 pub mod Refusals
-pub mod Given
 pub mod Numbers
 pub mod Counted
+pub mod Clearing

@@ -14,7 +14,7 @@ use Rattle.field.specs.Field.{byte, word}
 use Rattle.field.proofs.Standing.{stands}
 use Rattle.problem.specs.Problem.{Node, unit-form, atom-form, abstraction-form, pair-form, application-form, suspension-form, Equal}
 use Rattle.problem.specs.Reader.{Item, node, equation, freshness, assumption, protection, lengthFits, item}
-use Rattle.problem.specs.Held.{Stands}
+use Rattle.problem.specs.Held.{ItemStands}
 use Rattle.problem.specs.Look.{Suspended}
 
 -- Where the field's tag, length and body are in the input.
@@ -30,7 +30,7 @@ shift s o i k e = rw (← e) (getD-drop o s i 0)
 
 -- ---- any field
 
-module _ {s : List ℕ} {o : ℕ} {i : Item} (w : Stands s o i) where
+module _ {s : List ℕ} {o : ℕ} {i : Item} (w : ItemStands s o i) where
   pub located : Located s o (w .tag) (w .body)
   located =
       let h = stands (drop o s) (w .tag) (w .body) (w .rest) (w .stands) in
@@ -74,7 +74,7 @@ module _ {s : List ℕ} {o : ℕ} {i : Item} (w : Stands s o i) where
 same-form : {f g : Node} → node f ≡ node g → f ≡ g
 same-form e = cc
 
-module _ {s : List ℕ} {o : ℕ} {f : Node} (w : Stands s o (node f)) where
+module _ {s : List ℕ} {o : ℕ} {f : Node} (w : ItemStands s o (node f)) where
   pub unit-at : byte s o ≡ 0x10 → f ≡ unit-form
   unfolding item
   unit-at e = same-form (sym (said w 0x10 e))
@@ -153,7 +153,7 @@ swaps-bytes s o n body e h =
     let f : o + 3 + 1 ≡ o + 4 = omega arith in
     ap (drop 1) e ∙ (behind-first n (drop (o + 3) s) h ∙ ap (take (n - 1)) (drop-drop 1 (o + 3) s ∙ ap (λ k. drop k s) f))
 
-module _ {s : List ℕ} {o : ℕ} {f : Node} (w : Stands s o (node f)) where
+module _ {s : List ℕ} {o : ℕ} {f : Node} (w : ItemStands s o (node f)) where
   suspended-here : Last (byte s o) → byte s o ≡ 0x15
   suspended-here last =
       let e = located w .the-tag in sym e ∙ suspension-tag (w .tag) (w .body) f (subst Last (sym e) last) (w .says)
@@ -238,7 +238,7 @@ unfolding item
 later-item tag s i =
     behind-nodes (eqb tag 0x10) (eqb tag 0x11) (eqb tag 0x12) (eqb tag 0x13) (eqb tag 0x14) (eqb tag 0x15) _ _ _ _ _ _ (laterItem tag s) i
 
-pub equation-at : {s : List ℕ} {o : ℕ} {e : Equal} → Stands s o (equation e)
+pub equation-at : {s : List ℕ} {o : ℕ} {e : Equal} → ItemStands s o (equation e)
     → (o + 7 ≤ length s) × (e .left ≡ word s (o + 3)) × (e .right ≡ word s (o + 5))
 unfolding lengthFits
 equation-at {s} {o} {e} w =
@@ -250,7 +250,7 @@ equation-at {s} {o} {e} w =
       ap (λ (x : Equal). x .right) (sym (k .1)) ∙ two-at w 2 (o + 5) (omega arith) (omega arith),
     )
 
-pub freshness-at : {s : List ℕ} {o a m : ℕ} → Stands s o (freshness a m) → (o + 6 ≤ length s) × (a ≡ byte s (o + 3)) × (m ≡ word s (o + 4))
+pub freshness-at : {s : List ℕ} {o a m : ℕ} → ItemStands s o (freshness a m) → (o + 6 ≤ length s) × (a ≡ byte s (o + 3)) × (m ≡ word s (o + 4))
 unfolding lengthFits
 freshness-at {s} {o} {a} {m} w =
     let k = a-freshness (eqb (w .tag) 0x20) (eqb (w .tag) 0x21) (eqb (w .tag) 0x22) a m _ _ _ _ _ _

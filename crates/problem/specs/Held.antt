@@ -12,7 +12,7 @@ use Rattle.problem.specs.Problem.{formAt, Equal, Fresh, Assumed, Problem
 use Rattle.problem.specs.Reader.{Item, node, equation, freshness, Reading, read, unreadable, reading, baseTags, lengthFits, item}
 
 -- At offset o of the input stands a whole field, of a known tag and a fitting length, that says the item.
-pub record Stands (s : List ℕ) (o : ℕ) (i : Item) : Type 0 where
+pub record ItemStands (s : List ℕ) (o : ℕ) (i : Item) : Type 0 where
   pub tag : ℕ
   pub body : List ℕ
   pub rest : List ℕ
@@ -26,14 +26,18 @@ abbrev pub assumes : List Assumed → ℕ → ℕ → Bool
 assumes [] a X = false
 assumes (d ∷ ds) a X = (eqb (d .atom) a && eqb (d .variable) X) || assumes ds a X
 
+-- The atoms that are assumed fresh for a variable, as the reader leaves them: a set for each.
+abbrev pub assumedFor : List ℕ → ℕ → ℕ
+assumedFor assumed X = getD assumed X 0
+
 -- The offsets of nodes, equations and freshness fields in their order; for each variable the set of atoms assumed fresh for it; the set of protected
 -- variables.
 pub record Held (s places equationPlaces freshPlaces assumed : List ℕ) (protected : ℕ) (p : Problem) : Type 0 where
-  pub nodes : (n : ℕ) → n < length (p .nodes) → Stands s (getD places n 0) (node (formAt (p .nodes) n))
-  pub equations : (k : ℕ) (e : Equal) → k < length (p .equations) → Stands s (getD equationPlaces k 0) (equation (getD (p .equations) k e))
+  pub nodes : (n : ℕ) → n < length (p .nodes) → ItemStands s (getD places n 0) (node (formAt (p .nodes) n))
+  pub equations : (k : ℕ) (e : Equal) → k < length (p .equations) → ItemStands s (getD equationPlaces k 0) (equation (getD (p .equations) k e))
   pub freshness : (k : ℕ) (d : Fresh) → k < length (p .freshness)
-      → Stands s (getD freshPlaces k 0) (freshness (getD (p .freshness) k d .atom) (getD (p .freshness) k d .node))
-  pub assumptions : (a X : ℕ) → X < p .variables → member (getD assumed X 0) a ≡ assumes (p .assumptions) a X
+      → ItemStands s (getD freshPlaces k 0) (freshness (getD (p .freshness) k d .atom) (getD (p .freshness) k d .node))
+  pub assumptions : (a X : ℕ) → X < p .variables → member (assumedFor assumed X) a ≡ assumes (p .assumptions) a X
   pub protection : (X : ℕ) → member protected X ≡ among X (p .protected)
 
 -- The problem that the input is, so that contracts can name it: where the reader refuses, the one with nothing in it.

@@ -2,8 +2,5 @@ pub mod Problem
 pub mod Reader
 pub mod Readable
 pub mod Held
-pub mod Told
 pub mod Look
-pub mod Tables
-pub mod Noting
-pub mod Opening
+pub mod Told

@@ -8,7 +8,7 @@ use Rattle.problem.specs.Problem.{Node, unit-form, atom-form, abstractio
 use Rattle.problem.specs.Problem.{Equal, Fresh}
 use Rattle.problem.specs.Reader.{node, equation, freshness}
 use Rattle.problem.specs.Readable.{Readable}
-use Rattle.problem.specs.Held.{Stands, problemOf}
+use Rattle.problem.specs.Held.{ItemStands, problemOf}
 use Rattle.problem.specs.declared.Form.{Form}
 use Rattle.problem.specs.declared.Form.the-variants.{Unit, Atom, Abstraction, Pair, Application, Suspension}
 use Rattle.problem.specs.declared.look.Equation.{Equation}
@@ -43,15 +43,15 @@ freshPlaces places = getD places 2 []
 -- A field stands where the table says.
 pub record NodeStands (s : List ℕ) (places : List (List ℕ)) (n : ℕ) : Type 0 where
   pub small : n < 512
-  pub stands : Stands s (getD (nodePlaces places) n 0) (node (formNow s n))
+  pub stands : ItemStands s (getD (nodePlaces places) n 0) (node (formNow s n))
 
 pub record EquationStands (s : List ℕ) (places : List (List ℕ)) (k : ℕ) : Type 0 where
   pub small : k < 64
-  pub stands : Stands s (getD (equationPlaces places) k 0) (equation (equationNow s k))
+  pub stands : ItemStands s (getD (equationPlaces places) k 0) (equation (equationNow s k))
 
 pub record FreshnessStands (s : List ℕ) (places : List (List ℕ)) (k : ℕ) : Type 0 where
   pub small : k < 64
-  pub stands : Stands s (getD (freshPlaces places) k 0) (freshness (freshnessNow s k .atom) (freshnessNow s k .node))
+  pub stands : ItemStands s (getD (freshPlaces places) k 0) (freshness (freshnessNow s k .atom) (freshnessNow s k .node))
 
 -- The problem that was read stands in the input: it is within the limits with every name there, and each of its fields is where the table says. What
 -- everything after the reader leans on.

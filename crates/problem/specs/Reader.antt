@@ -5,8 +5,7 @@ use mathlib.Core.Bool.{Bool, true, not, _&&_, _||_, cond}
 use mathlib.Core.List.{List, [], _∷_, _++_}
 use lib.ListN.{length, drop}
 use lib.Dec.{eqb, leb, ltb}
-use Rattle.permutation.specs.Swaps as swaps
-use Rattle.permutation.specs.Swaps.{Swaps}
+use Rattle.permutation.specs.Swaps.{Swaps, swapsIn}
 use Rattle.field.specs.Field.{Field, cut, whole, byte, word, long, front}
 use Rattle.problem.specs.Problem.{Node, unit-form, atom-form, abstraction-form, pair-form, application-form, suspension-form}
 use Rattle.problem.specs.Problem.{Equal, Fresh, Assumed, Problem}
@@ -42,10 +41,6 @@ lengthFits tag n =
     || (eqb tag 0x21 && eqb n 3)
     || (eqb tag 0x22 && eqb n 2)
     || (eqb tag 0x30 && eqb n 1)
-
--- "0 to 32 swaps of two atoms each".
-abbrev pub swapsIn : List ℕ → Swaps
-swapsIn s = swaps.swapsIn s
 
 -- The table's column "body".
 unfoldable pub item : ℕ → List ℕ → Item

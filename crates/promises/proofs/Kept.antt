@@ -21,9 +21,8 @@ use Rattle.solutions.specs.Promises.{SameDemands, Agree}
 use Rattle.solutions.proofs.Corollaries.{ProperVerdict, proper, agree, Tells, solve-tells}
 use Rattle.solutions.proofs.Judge.{judge-exactly, judge-holds}
 use Rattle.figure3.proofs.Account.{verdict-is-figure3}
-use Rattle.numbers.specs.declared.Verdict as code
-use Rattle.numbers.specs.declared.Judgement.{Judgement}
-use Rattle.numbers.specs.Verdicts.{verdictNumber, resultOf, judgementGiven}
+use Rattle.numbers.specs.declared.Given.{Given}
+use Rattle.numbers.specs.Numbers.{resultOf, judgementGiven}
 use Rattle.promises.specs.Demands.{First, FirstJudged, Second, SecondJudged, Third, ThirdTwice}
 
 -- ---- what the definition leaves in the output
@@ -66,7 +65,7 @@ unfolding verdictRead
 refused-any input b (read p) e k n o f z = refused-read p (verdictOf p (runOf p)) (proper p (readable baseTags input p b e)) n o f z
 refused-any input b (unreadable m q) e k n o f z = let g : m ≡ n = cc in let (x, y) = k in omega arith
 
-module _ (input output after : List ℕ) (r : code.Verdict) (b : Bytes input) (contract : resultOf r after ≡ solve input output) where
+module _ (input output after : List ℕ) (r : Given) (b : Bytes input) (contract : resultOf r after ≡ solve input output) where
   leaves : Leaves output (resultOf r after)
   unfolding solve
   leaves =
@@ -94,13 +93,15 @@ module _ (input output after : List ℕ) (r : code.Verdict) (b : Bytes input) (c
   pub third : Third input output r after
   third = record { accepted = λ e. tells .0 (inl e); refused = tells .1 }
 
-module _ (input : List ℕ) (j : Judgement) (b : Bytes input) (contract : judgementGiven j ≡ judge input) where
+module _ (input : List ℕ) (j : Given) (b : Bytes input) (contract : judgementGiven j ≡ judge input) where
   pub first-judged : FirstJudged input j
   unfolding judge judgementRead
   first-judged = record { bad-input = λ n o e. contract ∙ rw e refl }
 
   pub second-judged : SecondJudged input j
-  second-judged = record { exactly = λ p e. rw contract (judge-exactly input b p e); only-what-is-read = rw contract (judge-holds input b) }
+  second-judged =
+      let number : j .number ≡ judge input .0 = ap (λ (x : ℕ × ℕ). x .0) contract in
+      record { exactly = λ p e. rw number (judge-exactly input b p e); only-what-is-read = rw number (judge-holds input b) }
 
 -- ---- the same demands twice
 
@@ -117,15 +118,15 @@ module _ (p q : Problem) (d e : List ℕ) where
   both (refusal i o) (accepted l cs gs) a x y m n s t = absurd (m a)
   both (refusal i o) (refusal j u) a x y m n s t = (λ z. absurd (let (f, g) = x in omega arith), λ z. absurd (let (f, g) = y in omega arith))
 
-module _ (s t d e after later : List ℕ) (r u : code.Verdict) (p q : Problem) (b : Bytes s) (c : Bytes t) (reads : reading baseTags s ≡ read p)
+module _ (s t d e after later : List ℕ) (r u : Given) (p q : Problem) (b : Bytes s) (c : Bytes t) (reads : reading baseTags s ≡ read p)
     (too : reading baseTags t ≡ read q)
     (contract : resultOf r after ≡ solve s d) (other : resultOf u later ≡ solve t e) (same : SameDemands p q) where
   pub third-twice : ThirdTwice p q r u
   third-twice =
       let x = readable baseTags s p b reads in
       let y = readable baseTags t q c too in
-      let k : verdictNumber r ≡ given (verdictOf p (runOf p)) d .number = ap (λ (z : Result). z .number) (second s d after r b contract .the-run p reads) in
-      let l : verdictNumber u ≡ given (verdictOf q (runOf q)) e .number = ap (λ (z : Result). z .number) (second t e later u c other .the-run q too) in
+      let k : r .number ≡ given (verdictOf p (runOf p)) d .number = ap (λ (z : Result). z .number) (second s d after r b contract .the-run p reads) in
+      let l : u .number ≡ given (verdictOf q (runOf q)) e .number = ap (λ (z : Result). z .number) (second t e later u c other .the-run q too) in
       record {
         alike = rw (k, l) (both p q d e (verdictOf p (runOf p)) (verdictOf q (runOf q)) (agree p q same x y) (proper p x) (proper q y));
         equally-general = agree p q same x y;

@@ -12,7 +12,9 @@ use Rattle.problem.specs.Problem.{Equal, Problem}
 use Rattle.problem.specs.Readable.{Readable}
 use Rattle.run.specs.Meaning.{Side, Binding}
 use Rattle.run.specs.Run.{Equation, Demand, Ground, Subject, Step, refuses, goes-on, step, pending, bindings, demands, next, run, equationsFrom, groundOf}
-use Rattle.run.proofs.States.{groundWith, start}
+use Rattle.run.specs.Circle.{Circleless}
+use Rattle.run.proofs.Circleless.{circleless-none}
+use Rattle.run.proofs.States.{groundWith, start-from, start}
 use Rattle.room.specs.Stacks.{onwards, stacks, Reaches, at-start, after-step}
 use Rattle.room.proofs.Reached.{Once, reached-few}
 
@@ -58,14 +60,15 @@ length-equations atoms i (e ∷ es) = ap suc (length-equations atoms (suc i) es)
 
 -- A readable problem's run, whichever variables are protected.
 module _ (p : Problem) (r : Readable p) (isProtected : ℕ → Bool) where
-  -- What its run reaches.
-  abbrev pub Reached : List Equation → List Binding → List Demand → Type 0
-  Reached es bs ds = Reaches (groundWith p isProtected) (equationsFrom (p .atoms) 0 (p .equations)) [] [] es bs ds
+  -- What its run reaches from the bindings bs₀.
+  abbrev pub Reached : List Binding → List Equation → List Binding → List Demand → Type 0
+  Reached bs₀ es bs ds = Reaches (groundWith p isProtected) (equationsFrom (p .atoms) 0 (p .equations)) bs₀ [] es bs ds
 
-  -- For code: every state that the run reaches has at most 576 equations, and at most as many bindings as there are variables.
-  pub reaches-room : (es : List Equation) (bs : List Binding) (ds : List Demand) → Reached es bs ds → length es ≤ 576
-  reaches-room es bs ds q =
-      let few = reached-few (groundWith p isProtected) (p .variables) (r .named-nodes) (start p r isProtected) q in
+  -- For code: every state that the run reaches has at most 576 equations, whatever bindings it started from.
+  pub reaches-room : {bs₀ : List Binding} → Circleless (p .atoms) (p .variables) (p .nodes) bs₀
+      → (es : List Equation) (bs : List Binding) (ds : List Demand) → Reached bs₀ es bs ds → length es ≤ 576
+  reaches-room c es bs ds q =
+      let few = reached-few (groundWith p isProtected) (p .variables) (r .named-nodes) (start-from p r isProtected c) q in
       let n = r .few-nodes in
       let e = r .few-equations in
       omega (arith, length-equations (p .atoms) 0 (p .equations))
@@ -77,7 +80,8 @@ module _ (p : Problem) (r : Readable p) (isProtected : ℕ → Bool) where
   -- No stack of a run of at most k steps, for every k, holds over 576 equations.
   pub stacks-room : (k : ℕ) → Every (λ es. length es ≤ 576) (stacks (groundWith p isProtected) k (equationsFrom (p .atoms) 0 (p .equations)) [])
   stacks-room k =
-      stacks-all (groundWith p isProtected) (equationsFrom (p .atoms) 0 (p .equations)) [] [] (λ es. length es ≤ 576) reaches-room k
+      stacks-all (groundWith p isProtected) (equationsFrom (p .atoms) 0 (p .equations)) [] [] (λ es. length es ≤ 576)
+      (reaches-room (circleless-none (p .atoms) (p .variables) (p .nodes))) k
       (equationsFrom (p .atoms) 0 (p .equations)) [] [] at-start
 
 -- The solver's run and the judge's.

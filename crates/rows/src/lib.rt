@@ -7,11 +7,12 @@ ghost use lib.ListN.{length, getD};
 ghost use Rattle.permutation.specs.Table.{image};
 ghost use Rattle.rows.specs.Rows.{rowKept, rowHeld, imagesIn};
 use names::Atom;
+use names::MOST_ATOMS;
 use permutation::Permutation;
 
-pub type Row = [u8; 32];
+pub type Row = [u8; MOST_ATOMS];
 
-pub const EMPTY: Row = [0; 32];
+pub const EMPTY: Row = [0; MOST_ATOMS];
 
 // The row that keeps a permutation.
 pub fn keep(p: Permutation) -> Row

@@ -16,7 +16,7 @@ use Rattle.rule.specs.Rule.{
   both-pairs,
   both-applications,
   different,
-  Fits,
+  RuleFits,
   both-suspended,
   left-suspended,
   right-suspended,
@@ -47,7 +47,7 @@ compounds-once (different n) both-applications = absurd (n refl)
 
 -- A suspension is no compound form.
 pub fits-once : {protected : ℕ → Bool} {occurring : ℕ → Side → Bool} {s t : Side} {v w : Form} {a b : Act}
-    → Fits protected occurring s t v w a → Fits protected occurring s t v w b → a ≡ b
+    → RuleFits protected occurring s t v w a → RuleFits protected occurring s t v w b → a ≡ b
 fits-once both-suspended both-suspended = refl
 fits-once (left-suspended k) (left-suspended j) = refl
 fits-once (right-suspended h) (right-suspended i) = refl

@@ -26,7 +26,7 @@ use Rattle.bindings.specs.Bindings.{Bindings, bindingsOf, Keeps, foundAt, value
 use Rattle.bindings.specs.declared.Found.{Found}
 use Rattle.bindings.specs.declared.Value.{Value}
 use Rattle.bindings.proofs.Bindings.{valueOf-set, valueIn-bound, valueIn-unbound, length-bindingsOf}
-use Rattle.rule.specs.Side.{groundIn, sideAt, wholeOf, Compound, valueTold, isBound, Valued, Resolved}
+use Rattle.rule.specs.Side.{groundIn, sideAt, wholeOf, Compound, valueTold, isBound, Valued, SideResolved}
 use Rattle.rule.proofs.Forms.{compound-valueless}
 
 -- ---- a suspension under a side's images
@@ -130,7 +130,7 @@ module _ (s : List ℕ) (A : ℕ) (t : Bindings) (bound k : ℕ) (before : Side)
     (kept : Kept s A t bound k before (sideAt A p at) left) where
   finish : (w : Form) → at .0 < length (problemOf s .nodes) → w ≡ formTold (formNow s (at .0))
       → ((f : ℕ → Bool) → Keeps (t .made) k bound → resolvedIn left (groundIn s f) (bindingsOf A t k) (sideAt A p at) ≡ sideAt A p at)
-      → Resolved s A t bound k before (record { images = p; node = at; form = w })
+      → SideResolved s A t bound k before (record { images = p; node = at; form = w })
   unfolding resolved
   finish w there e h =
       record {
@@ -141,12 +141,12 @@ module _ (s : List ℕ) (A : ℕ) (t : Bindings) (bound k : ℕ) (before : Side)
 
   -- No replacement is left.
   pub finish-none : (w : Form) → at .0 < length (problemOf s .nodes) → w ≡ formTold (formNow s (at .0)) → left ≡ 0
-      → Resolved s A t bound k before (record { images = p; node = at; form = w })
+      → SideResolved s A t bound k before (record { images = p; node = at; form = w })
   finish-none w there e z = finish w there e (λ f i. resolved-zero (groundIn s f) (bindingsOf A t k) (sideAt A p at) left z)
 
   -- The side is no suspension of a bound variable.
   pub finish-free : (w : Form) (r : Found) → A ≤ 32 → at .0 < length (problemOf s .nodes) → w ≡ formTold (formNow s (at .0))
-      → Valued t bound w r → r .bound ≡ false → Resolved s A t bound k before (record { images = p; node = at; form = w })
+      → Valued t bound w r → r .bound ≡ false → SideResolved s A t bound k before (record { images = p; node = at; form = w })
   finish-free w r h there e v b =
       finish w there e λ f i.
       resolved-stop s f (bindingsOf A t k) (sideAt A p at) left (rw e at (v .value A h k i) ∙ valueIn-unbound A r b)
@@ -181,7 +181,7 @@ unbound-told A t k bound h (Suspension x) e = valueOf-set A t k bound h (x .0) �
 -- It resolves to itself, however many bindings there are.
 pub resolved-itself : (s : List ℕ) (A : ℕ) (t : Bindings) (bound k : ℕ) (p : Permutation) (at : NodeId) (w : Form)
     → at .0 < length (problemOf s .nodes) → w ≡ formTold (formNow s (at .0)) → isBound bound w ≡ false
-    → Resolved s A t bound k (sideAt A p at) (record { images = p; node = at; form = w })
+    → SideResolved s A t bound k (sideAt A p at) (record { images = p; node = at; form = w })
 resolved-itself s A t bound k p at w there e b =
     finish s A t bound k (sideAt A p at) p at k (λ f i. refl) w there e λ f i.
     resolved-stop s f (bindingsOf A t k) (sideAt A p at) k (rw e at (unbound-told A t k bound i w b))

@@ -54,12 +54,12 @@ use Rattle.rule.specs.Rule.{
   unlessInside,
   unlessProtected,
   eitherAct,
-  Fits,
+  RuleFits,
   both-suspended,
   left-suspended,
   right-suspended,
   none-suspended,
-  Told,
+  OccursTold,
   Decided,
 }
 use Rattle.rule.proofs.Forms.{tag-kind, not-kind}
@@ -97,7 +97,7 @@ clashing P Q v w k others n e h = different (λ q. not-kind others k n w h (sym 
 module _ (A : ℕ) (protected : ℕ → Bool) (bound : ℕ) (made : List (List ℕ)) (nodeVariables : List ℕ) (l r : HeldSide) (act : Act) where
   -- What the occurs check says of a variable and a node.
   abbrev Says : NodeId → Variable → Bool → Type 0
-  Says n x o = Told bound made nodeVariables (n .0) (x .0) o
+  Says n x o = OccursTold bound made nodeVariables (n .0) (x .0) o
 
   pub decided-both : (x y : Variable) → l .form ≡ Suspension x → r .form ≡ Suspension y
       → ((i j : Bool) → Says (l .node) y i → Says (r .node) x j → act ≡ eitherAct protected x y i j)
@@ -246,7 +246,7 @@ module _ (g : Ground) (bs : List Binding) (s t : Side) where
         ap (fitting g bs s t) (tops-different (view (left-top v) (right-top w)) (left-compound v h) (right-compound w k) λ e.
         d (sym (shape-kind (g .atoms) (s .images) π v) ∙ e ∙ shape-kind (g .atoms) (t .images) ρ w))
 
-    ruled-forms : {v w : Form} {act : Act} → Fits (g .protected) (occursSide g bs) s t v w act → Ruled (untold π v) (untold ρ w) act
+    ruled-forms : {v w : Form} {act : Act} → RuleFits (g .protected) (occursSide g bs) s t v w act → Ruled (untold π v) (untold ρ w) act
     ruled-forms (both-suspended {x} {y}) = two-either g bs s t (left-whole (Suspension x)) (right-whole (Suspension y)) x y
     ruled-forms (left-suspended {x} {w} k) =
         let P = left-whole (Suspension x) in
@@ -256,7 +256,7 @@ module _ (g : Ground) (bs : List Binding) (s t : Side) where
         one-right g bs s t (left-whole v) Q y ∙ ap (fitting g bs s t) (tops-right (left-top v) Q (y .0) (left-compound v h))
     ruled-forms (none-suspended h k c) = ruled-compounds h k c
 
-  pub ruled : (v w : Node) (act : Act) → Fits (g .protected) (occursSide g bs) s t (formTold v) (formTold w) act → Ruled v w act
+  pub ruled : (v w : Node) (act : Act) → RuleFits (g .protected) (occursSide g bs) s t (formTold v) (formTold w) act → Ruled v w act
   ruled v w act f = subst₂ (λ x y. Ruled x y act) (sym (told-back v refl)) (sym (told-back w refl)) (ruled-forms (ownSwaps v) (ownSwaps w) f)
 
 -- ---- what an act names
@@ -293,7 +293,7 @@ module _ (variables : ℕ) (v w : Node) where
   names-compounds P Q (different d) = tt
 
 module _ {protected : ℕ → Bool} {occurring : ℕ → Side → Bool} {s t : Side} (atoms variables n : ℕ) where
-  names-forms : (π ρ : Swaps) {v w : Form} {act : Act} → Named atoms variables n (untold π v) → Fits protected occurring s t v w act
+  names-forms : (π ρ : Swaps) {v w : Form} {act : Act} → Named atoms variables n (untold π v) → RuleFits protected occurring s t v w act
       → Names variables (untold π v) (untold ρ w) act
   names-forms π ρ q (both-suspended {x} {y}) =
       let v : Node = suspension-form π (x .0) in
@@ -310,7 +310,7 @@ module _ {protected : ℕ → Bool} {occurring : ℕ → Side → Bool} {s t : S
       names-one variables (untold π v) (suspension-form ρ (y .0)) (protected (y .0)) (occurring (y .0) s) (BindRight y) tt
   names-forms π ρ q (none-suspended {v} {w} h k c) = names-compounds variables (untold π v) (untold ρ w) (s .images) (t .images) c
 
-  pub names : (v w : Node) (act : Act) → Named atoms variables n v → Fits protected occurring s t (formTold v) (formTold w) act → Names variables v w act
+  pub names : (v w : Node) (act : Act) → Named atoms variables n v → RuleFits protected occurring s t (formTold v) (formTold w) act → Names variables v w act
   names v w act q f =
       subst₂ (λ x y. Names variables x y act) (sym (told-back v refl)) (sym (told-back w refl))
       (names-forms (ownSwaps v) (ownSwaps w) (subst (Named atoms variables n) (told-back v refl) q) f)

@@ -16,7 +16,7 @@ use Rattle.permutation.specs.declared.Permutation.{Permutation}
 use Rattle.sets.specs.Bits.{member}
 use Rattle.run.specs.Meaning.{Side}
 use Rattle.run.specs.Run.{of-variable, of-side, under, clash, inside, protection, Step, refuses, goes-on, done}
-use Rattle.occurs.specs.Reached.{Answered}
+use Rattle.occurs.specs.Reached.{OccursAnswered}
 use Rattle.rule.specs.Side.{sideAt, sideHeld, kind, Compound, isBound}
 use Rattle.rule.specs.declared.side.Side.{Side as HeldSide}
 use Rattle.rule.specs.declared.Act.{Act}
@@ -25,8 +25,8 @@ use Rattle.rule.specs.declared.Act.the-variants.{Done, Clash, Inside, Pr
 -- ---- what an act is as a step
 
 -- A part of a side: the same images at another node.
-abbrev pub part : Side → NodeId → Side
-part s n = record { images = s .images; node = n .0 }
+abbrev pub partOf : Side → NodeId → Side
+partOf s n = record { images = s .images; node = n .0 }
 
 -- P and Q are what the sides s and t suspend their variables under, if they are suspensions.
 abbrev pub stepOf : Table → Table → Side → Side → Act → Step
@@ -34,10 +34,10 @@ stepOf P Q s t Done = done
 stepOf P Q s t Clash = refuses clash
 stepOf P Q s t Inside = refuses inside
 stepOf P Q s t Protection = refuses protection
-stepOf P Q s t (Part m n) = goes-on ((part s m, part t n) ∷ []) [] []
-stepOf P Q s t (Parts l m k n) = goes-on ((part s l, part t k) ∷ (part s m, part t n) ∷ []) [] []
+stepOf P Q s t (Part m n) = goes-on ((partOf s m, partOf t n) ∷ []) [] []
+stepOf P Q s t (Parts l m k n) = goes-on ((partOf s l, partOf t k) ∷ (partOf s m, partOf t n) ∷ []) [] []
 stepOf P Q s t (Renamed a m b n) =
-    goes-on ((part s m, record { images = swappedAfter (a .0) (b .0) (t .images); node = n .0 }) ∷ []) [] ((a .0, of-side (part t n)) ∷ [])
+    goes-on ((partOf s m, record { images = swappedAfter (a .0) (b .0) (t .images); node = n .0 }) ∷ []) [] ((a .0, of-side (partOf t n)) ∷ [])
 stepOf P Q s t (Same x) = goes-on [] [] (map (λ a. (a, of-variable (x .0))) (disagreement P Q))
 stepOf P Q s t (BindLeft x) = goes-on [] ((x .0, under (inverted P) t) ∷ []) []
 stepOf P Q s t (BindRight x) = goes-on [] ((x .0, under (inverted Q) s) ∷ []) []
@@ -85,21 +85,21 @@ eitherAct protected x y i j =
 
 -- By the forms of the sides s and t: two suspensions, one on the left, one on the right, or none. Given which variables are protected and which occur in
 -- a side.
-pub data Fits (protected : ℕ → Bool) (occurring : ℕ → Side → Bool) (s t : Side) : Form → Form → Act → Type 0 where
+pub data RuleFits (protected : ℕ → Bool) (occurring : ℕ → Side → Bool) (s t : Side) : Form → Form → Act → Type 0 where
   both-suspended : {x y : Variable}
-      → Fits protected occurring s t (Suspension x) (Suspension y) (eitherAct protected x y (occurring (y .0) s) (occurring (x .0) t))
+      → RuleFits protected occurring s t (Suspension x) (Suspension y) (eitherAct protected x y (occurring (y .0) s) (occurring (x .0) t))
   left-suspended : {x : Variable} {w : Form} → Compound w
-      → Fits protected occurring s t (Suspension x) w (unlessProtected (protected (x .0)) (occurring (x .0) t) (BindLeft x))
+      → RuleFits protected occurring s t (Suspension x) w (unlessProtected (protected (x .0)) (occurring (x .0) t) (BindLeft x))
   right-suspended : {v : Form} {y : Variable} → Compound v
-      → Fits protected occurring s t v (Suspension y) (unlessProtected (protected (y .0)) (occurring (y .0) s) (BindRight y))
+      → RuleFits protected occurring s t v (Suspension y) (unlessProtected (protected (y .0)) (occurring (y .0) s) (BindRight y))
   none-suspended : {v w : Form} {act : Act} → Compound v → Compound w → Compounds (s .images) (t .images) v w act
-      → Fits protected occurring s t v w act
+      → RuleFits protected occurring s t v w act
 
 -- ---- what is told
 
 -- o is what the occurs check says of the variable X and the node n.
-abbrev pub Told : ℕ → List (List ℕ) → List ℕ → ℕ → ℕ → Bool → Type 0
-Told bound made nodeVariables n X o = (b : Bool) → Answered bound made nodeVariables n X b → b ≡ o
+abbrev pub OccursTold : ℕ → List (List ℕ) → List ℕ → ℕ → ℕ → Bool → Type 0
+OccursTold bound made nodeVariables n X o = (b : Bool) → OccursAnswered bound made nodeVariables n X b → b ≡ o
 
 -- The variable that the form suspends, if it is a suspension, is not bound.
 abbrev pub Free : ℕ → Form → Type 0
@@ -109,10 +109,10 @@ Free bound w = isBound bound w ≡ false
 abbrev pub Agrees : ℕ → ℕ → List (List ℕ) → List ℕ → HeldSide → HeldSide → (ℕ → Side → Bool) → Type 0
 Agrees A bound made nodeVariables l r occurring =
     (X : ℕ) (n : NodeId) (p : Permutation) → member bound X ≡ false → (n ≡ l .node) ⊎ (n ≡ r .node)
-    → Told bound made nodeVariables (n .0) X (occurring X (sideAt A p n))
+    → OccursTold bound made nodeVariables (n .0) X (occurring X (sideAt A p n))
 
 -- With whatever agrees with the occurs check, the rule that fits is told.
 abbrev pub Decided : ℕ → (ℕ → Bool) → ℕ → List (List ℕ) → List ℕ → HeldSide → HeldSide → Act → Type 0
 Decided A protected bound made nodeVariables l r act =
     (occurring : ℕ → Side → Bool) → Agrees A bound made nodeVariables l r occurring → Free bound (l .form) → Free bound (r .form)
-    → Fits protected occurring (sideHeld A l) (sideHeld A r) (l .form) (r .form) act
+    → RuleFits protected occurring (sideHeld A l) (sideHeld A r) (l .form) (r .form) act

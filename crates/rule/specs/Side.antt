@@ -76,7 +76,7 @@ pub record Valued (t : Bindings) (bound : ℕ) (form : Form) (r : Found) : Type 
   pub there : (n : ℕ) → NodesThere n (t .made) bound → r .bound ≡ true → r .value .node .0 < n
 
 -- What resolving gives: the definition's resolved side, whichever variables are protected, with what stands at its node.
-pub record Resolved (s : List ℕ) (A : ℕ) (t : Bindings) (bound k : ℕ) (before : Side) (r : HeldSide) : Type 0 where
+pub record SideResolved (s : List ℕ) (A : ℕ) (t : Bindings) (bound k : ℕ) (before : Side) (r : HeldSide) : Type 0 where
   pub side : (f : ℕ → Bool) → Keeps (t .made) k bound → sideHeld A r ≡ resolved (groundIn s f) (bindingsOf A t k) before
   pub form : r .form ≡ formTold (formNow s (r .node .0))
   pub there : r .node .0 < length (problemOf s .nodes)

@@ -8,7 +8,7 @@ ghost use Rattle.permutation.specs.Table.{image};
 ghost use Rattle.sets.specs.Bits.{member};
 ghost use Rattle.bindings.specs.Bindings.{NodesThere};
 ghost use Rattle.rule.specs.Side.{Compound};
-ghost use Rattle.rule.specs.Rule.{atomsAct, abstractionsAct, applicationsAct, Compounds, unlessInside, unlessProtected, eitherAct, Told, Decided};
+ghost use Rattle.rule.specs.Rule.{atomsAct, abstractionsAct, applicationsAct, Compounds, unlessInside, unlessProtected, eitherAct, OccursTold, Decided};
 use crate::side::Side;
 use bindings::Made;
 use names::Atom;
@@ -134,7 +134,7 @@ fn unless_inside(
 ) -> Act
     requires { ⌜ (other .0 < 512) × NodesThere 512 (now made) (bound .0) ⌝ }
     ensures { λ r. ⌜ ((o : Bool)
-        → Told (bound .0) (now (made .entry)) (now («node_variables» .entry)) (other .0) (x .0) o
+        → OccursTold (bound .0) (now (made .entry)) (now («node_variables» .entry)) (other .0) (x .0) o
         → r ≡ unlessInside o act) ⌝ }
 {
     if occurs::occurs(node_variables, made, bound, x, other) {
@@ -155,7 +155,7 @@ fn one_variable(
 ) -> Act
     requires { ⌜ (other .0 < 512) × NodesThere 512 (now made) (bound .0) ⌝ }
     ensures { λ r. ⌜ ((o : Bool)
-        → Told (bound .0) (now (made .entry)) (now («node_variables» .entry)) (other .0) (x .0) o
+        → OccursTold (bound .0) (now (made .entry)) (now («node_variables» .entry)) (other .0) (x .0) o
         → r ≡ unlessProtected (member (protected .0) (x .0)) o act) ⌝ }
 {
     if protected.has(x) {
@@ -177,8 +177,8 @@ fn two_variables(
 ) -> Act
     requires { ⌜ (left .0 < 512) × (right .0 < 512) × NodesThere 512 (now made) (bound .0) ⌝ }
     ensures { λ r. ⌜ ((i j : Bool)
-        → Told (bound .0) (now (made .entry)) (now («node_variables» .entry)) (left .0) (y .0) i
-        → Told (bound .0) (now (made .entry)) (now («node_variables» .entry)) (right .0) (x .0) j
+        → OccursTold (bound .0) (now (made .entry)) (now («node_variables» .entry)) (left .0) (y .0) i
+        → OccursTold (bound .0) (now (made .entry)) (now («node_variables» .entry)) (right .0) (x .0) j
         → r ≡ eitherAct (member (protected .0)) x y i j) ⌝ }
 {
     if x.0 == y.0 {

@@ -5,8 +5,8 @@ ghost use lib.ListN.{length};
 ghost use Rattle.permutation.specs.Store.{table};
 ghost use Rattle.problem.specs.Held.{problemOf};
 ghost use Rattle.problem.specs.Look.{formNow, Suspended, Standing};
-ghost use Rattle.bindings.specs.Bindings.{tables, NodesThere};
-ghost use Rattle.rule.specs.Side.{isBound, Valued, Resolved, sideAt, wholeOf};
+ghost use Rattle.bindings.specs.Bindings.{bindingTables, NodesThere};
+ghost use Rattle.rule.specs.Side.{isBound, Valued, SideResolved, sideAt, wholeOf};
 use bindings::Found;
 use bindings::Made;
 use bindings::Value;
@@ -48,7 +48,7 @@ pub fn whole(
 
 // What a form is replaced by: the value of a bound variable.
 fn value_of(made: &Made, values: &Values, bound: VariableSet, form: Form) -> Found
-    ensures { λ r. ⌜ Valued (tables (now (made .entry)) (now (values .entry))) (bound .0) form r ⌝ }
+    ensures { λ r. ⌜ Valued (bindingTables (now (made .entry)) (now (values .entry))) (bound .0) form r ⌝ }
 {
     let Form::Suspension(x) = form else {
         let images = permutation::identity(0);
@@ -91,7 +91,7 @@ pub fn resolve(
         × (atoms ≡ problemOf (now s) .atoms)
         × (node .0 < length (problemOf (now s) .nodes))
         × NodesThere (length (problemOf (now s) .nodes)) (now made) (bound .0) ⌝ }
-    ensures { λ r. ⌜ Resolved (now (s .entry)) atoms (tables (now (made .entry)) (now (values .entry))) (bound .0) count
+    ensures { λ r. ⌜ SideResolved (now (s .entry)) atoms (bindingTables (now (made .entry)) (now (values .entry))) (bound .0) count
         (sideAt atoms images node) r ⌝ }
 {
     let mut p = images;

@@ -1,5 +1,5 @@
 -- The meaning of bindings. One record says all that is used of bindings and the substitution that they mean; it knows no order. It holds of no
--- bindings, and one more binding, made as the run makes it, keeps it.
+-- bindings, and one more binding keeps it: in any place, if it is not on a circle with those before it and sides are settled, and so as the run makes it.
 use Prim.Native.Nat.{ℕ, zero, suc, _<_}
 use native.Mathlib.Omega.{arith}
 use native.Mathlib.Numerals.{add-one}
@@ -144,7 +144,7 @@ top-under g P v R Z = by-form (formAt (g .nodes) (v .node))
     by-form (suspension-form π X) e = (after (v .images) (ofSwaps (g .atoms) π), ap (suspension-form (after (v .images) (ofSwaps (g .atoms) π))) (cc))
 
 -- Only a suspension is replaced.
-replaced-other : (bs : List Binding) (s : Side) (onward : Side → Side) (w : Form Table Side) → kind w ≢ 5 → replaced bs s w onward ≡ s
+pub replaced-other : (bs : List Binding) (s : Side) (onward : Side → Side) (w : Form Table Side) → kind w ≢ 5 → replaced bs s w onward ≡ s
 replaced-other bs s onward unit-form n = refl
 replaced-other bs s onward (atom-form a) n = refl
 replaced-other bs s onward (abstraction-form a t) n = refl
@@ -152,7 +152,7 @@ replaced-other bs s onward (pair-form t u) n = refl
 replaced-other bs s onward (application-form f t) n = refl
 replaced-other bs s onward (suspension-form P X) n = absurd (n refl)
 
-settled-other : (bs : List Binding) (w : Form Table Side) → kind w ≢ 5 → Settled bs w
+pub settled-other : (bs : List Binding) (w : Form Table Side) → kind w ≢ 5 → Settled bs w
 settled-other bs w n P X e = absurd (not-of X w n P e)
 
 module _ (g : Ground) (bs : List Binding) where
@@ -278,26 +278,19 @@ module _ (g : Ground) (variables : ℕ) (named : (n : ℕ) → Named (g .atoms) 
     absorbs = λ τ h X. sym (permute-nil (τ X));
   }
 
-  -- "if X occurs in the right side, looked at through all bindings, 10; else X becomes ..": what is known of a binding when it is made.
-  pub record Sound (bs : List Binding) (σ : Substitution) (X : ℕ) (v : Side) : Type 0 where
+  -- What a binding in any place needs to have a meaning with those before it.
+  pub record New (bs : List Binding) (σ : Substitution) (X : ℕ) (v : Side) : Type 0 where
     pub unbound : valueOf bs X ≡ none
     pub small : X < variables
     pub fits : Fits (g .atoms) (g .nodes) v
     pub absent : Occurs X (substitute σ (sideTree (g .nodes) v)) → ⊥
-    pub settled : Settled bs (top g v)
 
-  module _ {bs : List Binding} {σ : Substitution} (m : Meant g variables bs σ) (b : Binding) (s : Sound bs σ (b .variable) (b .value)) where
+  module _ {bs : List Binding} {σ : Substitution} (m : Meant g variables bs σ) (b : Binding) (s : New bs σ (b .variable) (b .value)) where
     abbrev worth′ : Tree
     worth′ = substitute σ (sideTree (g .nodes) (b .value))
 
     abbrev σ′ : Substitution
     σ′ = composed (replacing (b .variable) worth′) σ
-
-    -- X itself is not at the root of its value.
-    not-at-root : Settled (bs ++ (b ∷ [])) (top g (b .value))
-    not-at-root P Z e =
-        let f : valueOf bs Z ≡ none = s .settled P Z e in
-        valueOf-other bs b Z (λ q. s .absent (rw (top-suspension (b .value) P Z (s .fits) e .1, m .free Z f) (sym q))) ∙ f
 
     still : (Y : ℕ) → valueOf bs Y ≡ none → Y ≢ b .variable → valueOf (bs ++ (b ∷ [])) Y ≡ none
     still Y e n = valueOf-other bs b Y n ∙ e
@@ -359,8 +352,9 @@ module _ (g : Ground) (variables : ℕ) (named : (n : ℕ) → Named (g .atoms) 
         (λ Y o. by-eq Y (b .variable) (λ q. rw (q, replacing-same) w) (λ n. rw (replacing-other (b .variable) worth′ Y n) (sym (permute-nil (τ Y)))))
         ∙ sym (substitute-composed τ (replacing (b .variable) worth′) (σ X))
 
-    pub meant-more : Meant g variables (bs ++ (b ∷ [])) (composed (replacing (b .variable) (substitute σ (sideTree (g .nodes) (b .value)))) σ)
-    meant-more = record {
+    pub meant-new : ((t : Side) → Settled (bs ++ (b ∷ [])) (top g (resolved g (bs ++ (b ∷ [])) t)))
+        → Meant g variables (bs ++ (b ∷ [])) (composed (replacing (b .variable) (substitute σ (sideTree (g .nodes) (b .value)))) σ)
+    meant-new settles′ = record {
       few = λ X v e. valueOf-split bs b X v e (s .unbound) (m .few X v) (λ q k. rw q (s .small));
       fits = λ X v e. valueOf-split bs b X v e (s .unbound) (m .fits X v) (λ q k. rw k (s .fits));
       free = free′;
@@ -368,10 +362,30 @@ module _ (g : Ground) (variables : ℕ) (named : (n : ℕ) → Named (g .atoms) 
       gone = gone′;
       named = named′;
       apart = λ X v e. valueOf-split bs b X v e (s .unbound) (m .apart X v) (λ q k. rw (q, k) new-apart);
-      settles = λ t. settled-resolved g bs b (s .unbound) not-at-root t (m .settles t);
+      settles = settles′;
       follows = follows′;
       absorbs = absorbs′;
     }
+
+  -- "if X occurs in the right side, looked at through all bindings, 10; else X becomes ..": what is known of a binding when it is made.
+  pub record Sound (bs : List Binding) (σ : Substitution) (X : ℕ) (v : Side) : Type 0 where
+    pub unbound : valueOf bs X ≡ none
+    pub small : X < variables
+    pub fits : Fits (g .atoms) (g .nodes) v
+    pub absent : Occurs X (substitute σ (sideTree (g .nodes) v)) → ⊥
+    pub settled : Settled bs (top g v)
+
+  module _ {bs : List Binding} {σ : Substitution} (m : Meant g variables bs σ) (b : Binding) (s : Sound bs σ (b .variable) (b .value)) where
+    -- X itself is not at the root of its value.
+    not-at-root : Settled (bs ++ (b ∷ [])) (top g (b .value))
+    not-at-root P Z e =
+        let f : valueOf bs Z ≡ none = s .settled P Z e in
+        valueOf-other bs b Z (λ q. s .absent (rw (top-suspension (b .value) P Z (s .fits) e .1, m .free Z f) (sym q))) ∙ f
+
+    pub meant-more : Meant g variables (bs ++ (b ∷ [])) (composed (replacing (b .variable) (substitute σ (sideTree (g .nodes) (b .value)))) σ)
+    meant-more =
+        meant-new m b (record { unbound = s .unbound; small = s .small; fits = s .fits; absent = s .absent })
+        (λ t. settled-resolved g bs b (s .unbound) not-at-root t (m .settles t))
 
 -- The definition's meaning of one more binding.
 meaningAfter-more : (nodes : List Node) (σ : Substitution) (bs : List Binding) (b : Binding)

@@ -5,6 +5,9 @@ pub mod Trees
 pub mod Tops
 pub mod Did
 pub mod Bindings
+pub mod Paths
+pub mod Resolving
+pub mod Circleless
 pub mod Questions
 pub mod States
 pub mod Facts

@@ -16,13 +16,15 @@ use Rattle.problem.specs.Readable.{Named, Readable}
 use Rattle.run.specs.Meaning.{Side, sideTree, Binding, meaningAfter, meaning}
 use Rattle.run.specs.Run.{Equation, Subject, of-variable, of-side, Demand, Ground, top, valueOf, under, resolved, Step, refuses, goes-on, step, End}
 use Rattle.run.specs.Run.{limit, refused, finished, pending, bindings, demands, next, run, equationsFrom}
+use Rattle.run.specs.Circle.{Circleless}
 use Rattle.run.proofs.Same.{same-occurs, same-substitute}
 use Rattle.run.proofs.Trees.{Permuting, Fits, permuting-inverted, fits-under, fits-underSwap, fits-plain, tree-under-inverted, TopFits, top-fits}
 use Rattle.run.proofs.Did.{Did, step-did, occursSide, two-units, same-atoms, same-abstractions, other-abstractions, two-pairs, same-symbols}
 use Rattle.run.proofs.Did.{one-variable, left-bound, right-bound, left-inside, right-inside, left-protected, right-protected, both-protected}
 use Rattle.run.proofs.Did.{different-forms, different-atoms, different-symbols}
 use Rattle.run.proofs.Questions.{occursIn-false}
-use Rattle.run.proofs.Bindings.{valueOf-other, Settled, Meant, Sound, top-under, resolved-fits, meant-more, meaning-more, meant-none}
+use Rattle.run.proofs.Bindings.{valueOf-other, Settled, Meant, Sound, top-under, resolved-fits, meant-more, meaning-more}
+use Rattle.run.proofs.Circleless.{meant-circleless, circleless-none}
 
 module _ (g : Ground) (variables : ℕ) where
   -- What an atom is demanded fresh for is there.
@@ -183,10 +185,15 @@ pub meaning-none : (nodes : List Node) → meaning nodes [] ≡ variable
 unfolding meaning meaningAfter
 meaning-none nodes = refl
 
-pub start : (p : Problem) (r : Readable p) (isProtected : ℕ → Bool)
-    → State (groundWith p isProtected) (p .variables) (r .named-nodes) (equationsFrom (p .atoms) 0 (p .equations)) [] []
-start p r isProtected = record {
+-- The equations of the problem wait, under any bindings from which a run can start.
+pub start-from : (p : Problem) (r : Readable p) (isProtected : ℕ → Bool) {bs : List Binding} → Circleless (p .atoms) (p .variables) (p .nodes) bs
+    → State (groundWith p isProtected) (p .variables) (r .named-nodes) (equationsFrom (p .atoms) 0 (p .equations)) bs []
+start-from p r isProtected c = record {
   waiting = equations-fit (groundWith p isProtected) (p .variables) 0 (p .equations) (r .named-equations);
-  meant = rw (meaning-none (p .nodes)) (meant-none (groundWith p isProtected) (p .variables) (r .named-nodes));
+  meant = meant-circleless (groundWith p isProtected) (p .variables) (r .named-nodes) c;
   raised = tt;
 }
+
+pub start : (p : Problem) (r : Readable p) (isProtected : ℕ → Bool)
+    → State (groundWith p isProtected) (p .variables) (r .named-nodes) (equationsFrom (p .atoms) 0 (p .equations)) [] []
+start p r isProtected = start-from p r isProtected (circleless-none (p .atoms) (p .variables) (p .nodes))

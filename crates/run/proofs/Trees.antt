@@ -7,7 +7,7 @@ use mathlib.Core.Path.{_≡_, refl, sym, _∙_, ap}
 use mathlib.Core.List.{List, [], _∷_, _++_}
 use lib.ListN.{length, getD, length-append, List·getD-append, List·getD-eq-default}
 use Rattle.permutation.specs.Swaps.{Swaps, act, inverse, Within}
-use Rattle.permutation.specs.Table.{Table, image, identity, after, inverted, ofSwaps, swappedAfter, Permutes, swapsOf}
+use Rattle.permutation.specs.Table.{Table, image, identity, after, inverted, ofSwaps, swappedAfter, swapsOf}
 use Rattle.permutation.proofs.Swaps.{act-append, within, within-append}
 use Rattle.permutation.proofs.Table.{length-identity, length-after, length-inverted, length-swappedAfter, length-ofSwaps, image-after, image-ofSwaps-within}
 use Rattle.permutation.proofs.Table.{permutes-identity, permutes-ofSwaps, permutes-after, permutes-inverted, permutes-swappedAfter, act-swapsOf, swapsOf-within}
@@ -18,6 +18,7 @@ use Rattle.problem.specs.Problem.{Form, unit-form, atom-form, abstraction-form,
 use Rattle.problem.specs.Readable.{Named}
 use Rattle.run.specs.Meaning.{treeOf, treesAfter, tree, Side, sideTree}
 use Rattle.run.specs.Run.{Ground, permuted, top, under}
+pub use Rattle.run.specs.Circle.{Permuting, Fits}
 use Rattle.nominal.specs.Same.{Same}
 use Rattle.run.proofs.Same.{same-transitive, same-permute}
 
@@ -84,15 +85,6 @@ module _ (atoms variables : ℕ) where
       by-form (suspension-form π X) = refl
 
 -- ---- sides
-
--- What the run keeps of each side: its table permutes the problem's atoms and its node is there.
-pub record Permuting (atoms : ℕ) (P : Table) : Type 0 where
-  pub long : length P ≡ atoms
-  pub permutes : Permutes P
-
-pub record Fits (atoms : ℕ) (nodes : List Node) (s : Side) : Type 0 where
-  pub images : Permuting atoms (s .images)
-  pub there : s .node < length nodes
 
 pub permuting-identity : (atoms : ℕ) → Permuting atoms (identity atoms)
 permuting-identity atoms = record { long = length-identity atoms; permutes = permutes-identity atoms }

@@ -24,15 +24,8 @@ first : {x : ℕ} → (x ≡ 0) ⊎ (x ≡ 13) → x ≢ 13 → x ≡ 0
 first (inl e) n = e
 first (inr e) n = absurd (n e)
 
-second : {x : ℕ} → (x ≡ 0) ⊎ (x ≡ 13) → x ≢ 0 → x ≡ 13
-second (inl e) n = absurd (n e)
-second (inr e) n = e
-
 pub written-fits : (answer output : List ℕ) → written answer output .number ≢ 13 → written answer output .number ≡ 0
 written-fits answer output n = first (written-number answer output) n
-
-pub written-short : (answer output : List ℕ) → written answer output .number ≢ 0 → written answer output .number ≡ 13
-written-short answer output n = second (written-number answer output) n
 
 -- Five bytes for each fact.
 pub length-factBytes : (fs : List Fact) → length (factBytes fs) ≡ 5 * length fs

@@ -1,6 +1,6 @@
 -- Document 01: what is resolved when no equation is left, the answer in bytes, the solver and the judge, from bytes to number, place and the lent
 -- output's final content. Definitions alone, in the document's order.
-use Prim.Native.Nat.{ℕ, _-_, _≤_}
+use Prim.Native.Nat.{ℕ, _-_}
 use mathlib.Core.Bool.{Bool, true, false, _&&_, _||_, cond}
 use mathlib.Core.List.{List, [], _∷_, _++_, map}
 use mathlib.Core.Option.{Option, none, some}
@@ -8,6 +8,7 @@ use lib.ListN.{length, drop}
 use lib.Dec.{eqb, leb}
 use Rattle.permutation.specs.Table.{upto}
 use Rattle.nominal.specs.Tree.{Tree, variable, Substitution, substitute}
+pub use Rattle.numbers.specs.Numbers.{Result, Judgement, NoSolution}
 use Rattle.layout.specs.Parts as layout
 use Rattle.layout.specs.Parts.{binding, fact, partField}
 use Rattle.problem.specs.Problem.{Node, Fresh, Assumed, Problem}
@@ -80,10 +81,6 @@ refusalNumber clash = 9
 refusalNumber inside = 10
 refusalNumber protection = 11
 
--- Those of the table's numbers that say that no allowed solution exists.
-abbrev pub NoSolution : ℕ → Type 0
-NoSolution n = (9 ≤ n) × (n ≤ 12)
-
 abbrev pub concluded : Problem → ℕ → List Binding → Option (List Fact) → Verdict
 concluded p k bs none = refusal 12 0
 concluded p k bs (some fs) = accepted (p .limit - k) bs (facts p fs)
@@ -97,12 +94,6 @@ verdictOf p (finished k bs ds) =
 unfoldable pub verdictRead : Reading → Verdict
 verdictRead (read p) = verdictOf p (runOf p)
 verdictRead (Rattle.problem.specs.Reader.unreadable n o) = refusal n o
-
--- The number and place given back, and what the lent output holds in the end.
-pub record Result : Type 0 where
-  pub number : ℕ
-  pub place : ℕ
-  pub output : List ℕ
 
 -- "13 is given only to an accepted problem whose answer is longer than the lent output. Every refusal leaves the output unchanged; an acceptance
 -- leaves the bytes after the answer unchanged."
@@ -130,10 +121,6 @@ assumedFacts ds = map (λ d. (d .atom, d .variable)) ds
 abbrev pub allAmong : List Fact → List Fact → Bool
 allAmong given [] = true
 allAmong given (f ∷ fs) = hasFact f given && allAmong given fs
-
--- What the judge gives back: number and place.
-abbrev pub Judgement : Type 0
-Judgement = ℕ × ℕ
 
 abbrev pub holdsFrom : List Assumed → Option (List Fact) → Judgement
 holdsFrom ds none = (14, 0)

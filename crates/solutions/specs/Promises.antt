@@ -1,6 +1,6 @@
 -- What document 01 promises of the solver and the judge, said of a problem as it is read: its trees, who solves it, which answer it gets and what
 -- figure 2 derives of it. Definitions alone; that the solver and the judge keep these promises is in proofs/.
-use Prim.Native.Nat.{ℕ, _≤_}
+use Prim.Native.Nat.{ℕ}
 use mathlib.Core.Path.{_≡_}
 use mathlib.Core.Logic.{_≢_, _↔_}
 use mathlib.Core.List.{List, _++_, map, List·Memᴰ}

@@ -5,5 +5,5 @@ use Rattle.printer.specs.Lines.{solverLines}
 use Rattle.run.specs.Answer as run
 
 -- The lines of what the solver gives back.
-abbrev pub linesOf : run.Result → List ℕ
-linesOf s = solverLines (s .number) (s .place) (s .output)
+abbrev pub solverLinesOf : run.Result → List ℕ
+solverLinesOf s = solverLines (s .number) (s .place) (s .output)

@@ -3,17 +3,16 @@ ghost use Prim.Native.Nat.{_*_, _≤_};
 ghost use lib.ListN.{length};
 ghost use Rattle.run.specs.Answer as run;
 ghost use Rattle.intake.specs.Fills.{Fills};
-ghost use Rattle.solve.specs.Serving.{Works, Serves};
+ghost use Rattle.solve.specs.Serving.{SolverWorks, SolverServes};
 use exchange::Served;
 use exchange::Worked;
 
 // What the problem prints, whole, in `out` from its start.
 fn work(input: &[u8], output: &mut [u8], out: &mut [u8]) -> Worked
     requires { ⌜ (4 * length (now output) ≤ length (now out)) × (33 ≤ length (now out)) ⌝ }
-    ensures { λ r. ⌜ Works (run.solve (now (input .entry)) (now (output .entry))) (now (out .exit)) r ⌝ }
+    ensures { λ r. ⌜ SolverWorks (run.solve (now (input .entry)) (now (output .entry))) (now (out .exit)) r ⌝ }
 {
-    let verdict = solver::entries::solve(input, output);
-    let given = numbers::of_verdict(verdict);
+    let given = solver::entries::solve(input, output);
     let end = printer::solver_lines(out, 0, given.number, given.place, output);
     Worked {
         given: given,
@@ -25,7 +24,7 @@ fn work(input: &[u8], output: &mut [u8], out: &mut [u8]) -> Worked
 fn serve(input: &mut [u8], output: &mut [u8], out: &mut [u8]) -> Served
     requires { ⌜ (4 * length (now output) ≤ length (now out)) × (33 ≤ length (now out)) ⌝ }
     ensures { λ r. ⌜ Fills (length (now (input .exit))) (r .filled) ⌝ }
-    ensures { λ r. ⌜ Serves (now (input .exit)) (now (output .entry)) (now (out .entry)) (now (out .exit)) r ⌝ }
+    ensures { λ r. ⌜ SolverServes (now (input .exit)) (now (output .entry)) (now (out .entry)) (now (out .exit)) r ⌝ }
 {
     let filled = intake::fill(0, input);
     if filled.failed {

@@ -2,28 +2,25 @@
 use Prim.Native.Nat.{ℕ}
 use mathlib.Core.Path.{_≡_, sym, _∙_, ap}
 use mathlib.Core.List.{List}
+use Rattle.numbers.specs.declared.Given.{Given}
+use Rattle.numbers.specs.Numbers.{resultOf, judgementGiven}
 use Rattle.problem.specs.Reader.{Reading}
 use Rattle.problem.specs.Held.{problemOf}
-use Rattle.problem.specs.Tables.{Tables}
-use Rattle.problem.specs.Told.{numbered}
-use Rattle.problem.specs.Opening.{ReadAs}
+use Rattle.reader.specs.Tables.{ReaderTables}
+use Rattle.reader.specs.Told.{ReadAs}
 use Rattle.problem.specs.declared.Counts.{Counts}
-use Rattle.problem.specs.declared.Reading as answer
-use Rattle.problem.specs.declared.Reading.the-variants.{Read}
-use Rattle.problem.proofs.Given.{Refused, told-refused, is-read}
+use Rattle.reader.specs.declared.Reading as answer
+use Rattle.reader.specs.declared.Reading.the-variants.{Read, Refused}
+use Rattle.reader.proofs.Given.{is-read, is-refused}
 use Rattle.run.specs.Run.{runOf}
 use Rattle.run.specs.Answer.{verdictOf, verdictRead, Result, given, solve, judgedRun, Judgement, judgementOf, judgementRead, judge}
 
-module _ {s : List ℕ} {before after : Tables} {r : answer.Reading} (h : ReadAs s before r after) where
+module _ {s : List ℕ} {before after : ReaderTables} {r : answer.Reading} (h : ReadAs s before r after) where
   -- ---- the solver
 
-  pub solve-refused : {v : answer.Reading} {output : List ℕ} → r ≡ v → Refused v
-      → record { number = numbered v .0; place = numbered v .1; output = output } ≡ solve s output
+  pub solve-refused : {g : Given} (output : List ℕ) → r ≡ Refused g → resultOf g output ≡ solve s output
   unfolding solve verdictRead given
-  solve-refused {v} {output} e is-refusal =
-      let (n, o, is-refused, same) = told-refused s v (sym e ∙ h .the-answer) is-refusal in
-      ap (λ (x : ℕ × ℕ). record { number = x .0; place = x .1; output = output }) same
-      ∙ sym (ap (λ (x : Reading). given (verdictRead x) output) is-refused)
+  solve-refused output e = sym (ap (λ (x : Reading). given (verdictRead x) output) (is-refused h e))
 
   pub solve-read : (output : List ℕ) {c : Counts} {x : Result} → r ≡ Read c → x ≡ given (verdictOf (problemOf s) (runOf (problemOf s))) output
       → x ≡ solve s output
@@ -32,11 +29,9 @@ module _ {s : List ℕ} {before after : Tables} {r : answer.Reading} (h : ReadAs
 
   -- ---- the judge
 
-  pub judge-refused : {v : answer.Reading} → r ≡ v → Refused v → numbered v ≡ judge s
+  pub judge-refused : {g : Given} → r ≡ Refused g → judgementGiven g ≡ judge s
   unfolding judge judgementRead
-  judge-refused {v} e is-refusal =
-      let (n, o, is-refused, same) = told-refused s v (sym e ∙ h .the-answer) is-refusal in
-      same ∙ sym (ap judgementRead is-refused)
+  judge-refused e = sym (ap judgementRead (is-refused h e))
 
   pub judge-read : {c : Counts} {x : Judgement} → r ≡ Read c → x ≡ judgementOf (problemOf s) (judgedRun (problemOf s)) → x ≡ judge s
   unfolding judge judgementRead

@@ -1,7 +1,7 @@
 // The entries of the solver and of the judge. The inner ones take the work tables, with any content; the plain ones make them.
 ghost use mathlib.Core.Path.{_≡_};
 ghost use Rattle.run.specs.Answer as run;
-ghost use Rattle.numbers.specs.Verdicts.{resultOf, judgementGiven};
+ghost use Rattle.numbers.specs.Numbers.{resultOf, judgementGiven};
 use crate::judging::judge_read;
 use crate::solving::solve_read;
 use crate::tables::Asked;
@@ -14,9 +14,8 @@ use crate::tables::Marks;
 use crate::tables::NodeVariables;
 use crate::tables::Places;
 use crate::tables::Values;
-use numbers::Judgement;
-use numbers::Verdict;
-use problem::Reading;
+use numbers::Given;
+use reader::Reading;
 
 // The solver, over lent work tables with any content.
 pub fn solve_with(
@@ -32,18 +31,12 @@ pub fn solve_with(
     asked: &mut Asked,
     firsts: &mut Firsts,
     marks: &mut Marks,
-) -> Verdict
+) -> Given
     ensures { λ r. ⌜ resultOf r (now (output .exit)) ≡ run.solve (now (input .entry)) (now (output .entry)) ⌝ }
 {
-    let reading = problem::reader::read(input, places, assumed);
+    let reading = reader::read(input, places, assumed);
     match reading {
-        Reading::TooLong => Verdict::TooLong,
-        Reading::NoHead => Verdict::NoHead,
-        Reading::Cut(o) => Verdict::Cut(o),
-        Reading::UnknownTag(o) => Verdict::UnknownTag(o),
-        Reading::WrongLength(o) => Verdict::WrongLength(o),
-        Reading::TooMany(o) => Verdict::TooMany(o),
-        Reading::NotThere(o) => Verdict::NotThere(o),
+        Reading::Refused(g) => g,
         Reading::Read(c) => solve_read(
             input,
             c,
@@ -75,18 +68,12 @@ pub fn judge_with(
     asked: &mut Asked,
     firsts: &mut Firsts,
     marks: &mut Marks,
-) -> Judgement
+) -> Given
     ensures { λ r. ⌜ judgementGiven r ≡ run.judge (now (input .entry)) ⌝ }
 {
-    let reading = problem::reader::read(input, places, assumed);
+    let reading = reader::read(input, places, assumed);
     match reading {
-        Reading::TooLong => Judgement::TooLong,
-        Reading::NoHead => Judgement::NoHead,
-        Reading::Cut(o) => Judgement::Cut(o),
-        Reading::UnknownTag(o) => Judgement::UnknownTag(o),
-        Reading::WrongLength(o) => Judgement::WrongLength(o),
-        Reading::TooMany(o) => Judgement::TooMany(o),
-        Reading::NotThere(o) => Judgement::NotThere(o),
+        Reading::Refused(g) => g,
         Reading::Read(c) => judge_read(
             input,
             c,
@@ -105,7 +92,7 @@ pub fn judge_with(
 }
 
 // The solver.
-pub fn solve(input: &[u8], output: &mut [u8]) -> Verdict
+pub fn solve(input: &[u8], output: &mut [u8]) -> Given
     ensures { λ r. ⌜ resultOf r (now (output .exit)) ≡ run.solve (now (input .entry)) (now (output .entry)) ⌝ }
 {
     let mut places = crate::tables::EMPTY_PLACES;
@@ -135,7 +122,7 @@ pub fn solve(input: &[u8], output: &mut [u8]) -> Verdict
 }
 
 // The judge.
-pub fn judge(input: &[u8]) -> Judgement
+pub fn judge(input: &[u8]) -> Given
     ensures { λ r. ⌜ judgementGiven r ≡ run.judge (now (input .entry)) ⌝ }
 {
     let mut places = crate::tables::EMPTY_PLACES;

@@ -1,10 +1,10 @@
 // The judge after its reader: the run with every variable protected, and what comes after its end.
 ghost use mathlib.Core.Path.{_≡_};
 ghost use Rattle.problem.specs.Held.{problemOf};
-ghost use Rattle.problem.specs.Opening.{ReadInto};
+ghost use Rattle.problem.specs.Told.{ReadInto};
 ghost use Rattle.run.specs.Answer.{judgedRun};
 ghost use Rattle.run.specs.Answer as run;
-ghost use Rattle.numbers.specs.Verdicts.{judgementGiven};
+ghost use Rattle.numbers.specs.Numbers.{judgementGiven};
 use crate::running::run_read;
 use crate::tables::Asked;
 use crate::tables::Assumed;
@@ -16,8 +16,11 @@ use crate::tables::Marks;
 use crate::tables::NodeVariables;
 use crate::tables::Places;
 use crate::tables::Values;
-use machine::verdict;
-use numbers::Judgement;
+use numbers::ACCEPTED;
+use numbers::DOES_NOT_HOLD;
+use numbers::Given;
+use numbers::LIMIT;
+use numbers::give;
 use problem::Counts;
 use sets::VariableSet;
 
@@ -35,7 +38,7 @@ pub fn judge_read(
     asked: &mut Asked,
     firsts: &mut Firsts,
     marks: &mut Marks,
-) -> Judgement
+) -> Given
     requires { ⌜ ReadInto (now input) (now places) (now assumed) c ⌝ }
     ensures { λ r. ⌜ judgementGiven r ≡ run.judgementOf (problemOf (now (input .entry))) (judgedRun (problemOf (now (input .entry)))) ⌝ }
 {
@@ -52,23 +55,24 @@ pub fn judge_read(
         asked,
         firsts,
         protected,
+        VariableSet::empty(),
+        0,
     );
-    let v = ran.verdict;
-    match v {
-        verdict::Verdict::Limit(n) => Judgement::Limit(n),
-        verdict::Verdict::Clash(_) => Judgement::DoesNotHold,
-        verdict::Verdict::Inside(_) => Judgement::DoesNotHold,
-        verdict::Verdict::Protection(_) => Judgement::DoesNotHold,
-        verdict::Verdict::Accepted => ending::judged(
-            input,
-            c,
-            places,
-            assumed,
-            made,
-            values,
-            asked,
-            marks,
-            ran.bound,
-        ),
+    if ran.verdict.number == LIMIT {
+        return ran.verdict;
     }
+    if ran.verdict.number != ACCEPTED {
+        return give(DOES_NOT_HOLD, 0);
+    }
+    ending::judged(
+        input,
+        c,
+        places,
+        assumed,
+        made,
+        values,
+        asked,
+        marks,
+        ran.bound,
+    )
 }

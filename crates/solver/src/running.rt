@@ -4,8 +4,9 @@ ghost use Rattle.problem.specs.Held.{problemOf};
 ghost use Rattle.problem.specs.Look.{Standing};
 ghost use Rattle.problem.specs.Told.{countsOf};
 ghost use Rattle.sets.specs.Bits.{member};
-ghost use Rattle.bindings.specs.Bindings.{tables};
-ghost use Rattle.solver.specs.Ends.{runWith, Ends};
+ghost use Rattle.bindings.specs.Bindings.{bindingTables, bindingsOf};
+ghost use Rattle.machine.specs.Run.{Founded};
+ghost use Rattle.solver.specs.Ends.{runFrom, RunEnds};
 use crate::tables::Asked;
 use crate::tables::Firsts;
 use crate::tables::Heads;
@@ -19,7 +20,7 @@ use machine::verdict::Ran;
 use problem::Counts;
 use sets::VariableSet;
 
-// With the variables of a set protected. The tables may hold anything.
+// From the bindings that the tables have, whoever made them, with the variables of a set protected. The other tables may hold anything.
 pub fn run_read(
     input: &[u8],
     c: Counts,
@@ -32,10 +33,14 @@ pub fn run_read(
     asked: &mut Asked,
     firsts: &mut Firsts,
     protected: VariableSet,
+    bound: VariableSet,
+    count: usize,
 ) -> Ran
     requires { ⌜ Standing (now input) (now places) × (c ≡ countsOf (problemOf (now input))) ⌝ }
-    ensures { λ r. ⌜ Ends (problemOf (now (input .entry))) (tables (now (made .exit)) (now (values .exit))) (now (asked .exit)) r
-        (runWith (problemOf (now (input .entry))) (member (protected .0))) ⌝ }
+    requires { ⌜ Founded (problemOf (now input)) (bindingTables (now made) (now values)) count (bound .0) ⌝ }
+    ensures { λ r. ⌜ RunEnds (problemOf (now (input .entry))) (bindingTables (now (made .exit)) (now (values .exit))) (now (asked .exit)) r
+        (runFrom (problemOf (now (input .entry))) (member (protected .0))
+        (bindingsOf (problemOf (now (input .entry)) .atoms) (bindingTables (now (made .entry)) (now (values .entry))) count)) ⌝ }
 {
     occurs::fill(input, places, node_variables, c.nodes as usize);
     let ran = machine::verdict::run(
@@ -50,6 +55,8 @@ pub fn run_read(
         asked,
         firsts,
         protected,
+        bound,
+        count,
     );
     words(asked);
     ran

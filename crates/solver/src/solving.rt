@@ -1,10 +1,10 @@
 // The solver after its reader: the run, and what comes after its end.
 ghost use mathlib.Core.Path.{_≡_};
 ghost use Rattle.problem.specs.Held.{problemOf};
-ghost use Rattle.problem.specs.Opening.{ReadInto};
+ghost use Rattle.problem.specs.Told.{ReadInto};
 ghost use Rattle.run.specs.Run.{runOf};
 ghost use Rattle.run.specs.Answer.{verdictOf, given};
-ghost use Rattle.numbers.specs.Verdicts.{resultOf};
+ghost use Rattle.numbers.specs.Numbers.{resultOf};
 use crate::running::run_read;
 use crate::tables::Asked;
 use crate::tables::Assumed;
@@ -16,9 +16,10 @@ use crate::tables::Marks;
 use crate::tables::NodeVariables;
 use crate::tables::Places;
 use crate::tables::Values;
-use machine::verdict;
-use numbers::Verdict;
+use numbers::ACCEPTED;
+use numbers::Given;
 use problem::Counts;
+use sets::VariableSet;
 
 // What the solver gives back for a problem that was read.
 pub fn solve_read(
@@ -35,7 +36,7 @@ pub fn solve_read(
     asked: &mut Asked,
     firsts: &mut Firsts,
     marks: &mut Marks,
-) -> Verdict
+) -> Given
     requires { ⌜ ReadInto (now input) (now places) (now assumed) c ⌝ }
     ensures { λ r. ⌜ resultOf r (now (output .exit))
         ≡ given (verdictOf (problemOf (now (input .entry))) (runOf (problemOf (now (input .entry))))) (now (output .entry)) ⌝ }
@@ -52,26 +53,24 @@ pub fn solve_read(
         asked,
         firsts,
         c.protected,
+        VariableSet::empty(),
+        0,
     );
-    let v = ran.verdict;
-    match v {
-        verdict::Verdict::Limit(n) => Verdict::Limit(n),
-        verdict::Verdict::Clash(n) => Verdict::Clash(n),
-        verdict::Verdict::Inside(n) => Verdict::Inside(n),
-        verdict::Verdict::Protection(n) => Verdict::Protected(n),
-        verdict::Verdict::Accepted => ending::conclude(
-            input,
-            c,
-            output,
-            places,
-            assumed,
-            made,
-            values,
-            asked,
-            marks,
-            ran.bound,
-            ran.count,
-            ran.steps,
-        ),
+    if ran.verdict.number != ACCEPTED {
+        return ran.verdict;
     }
+    ending::conclude(
+        input,
+        c,
+        output,
+        places,
+        assumed,
+        made,
+        values,
+        asked,
+        marks,
+        ran.bound,
+        ran.count,
+        ran.steps,
+    )
 }

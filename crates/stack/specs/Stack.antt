@@ -10,13 +10,17 @@ use Rattle.problem.specs.Problem.{Equal}
 use Rattle.run.specs.Run.{Equation, equationsFrom}
 use Rattle.stack.specs.declared.Pending.{Pending}
 
+-- "room for 576 is enough": how many equations can wait.
+abbrev pub mostWaiting : ℕ
+mostWaiting = 576
+
 -- Of each equation its number and the nodes of its sides, and the rows of its sides.
 pub record Stack : Type 0 where
   pub heads : List (List ℕ)
   pub images : List (List (List ℕ))
 
-abbrev pub tables : List (List ℕ) → List (List (List ℕ)) → Stack
-tables heads images = record { heads = heads; images = images }
+abbrev pub stackTables : List (List ℕ) → List (List (List ℕ)) → Stack
+stackTables heads images = record { heads = heads; images = images }
 
 -- What the code makes of place i. A number is a byte, kept where there is room for two: the low one is read.
 unfoldable pub pendingAt : Stack → ℕ → Pending

@@ -7,9 +7,10 @@ ghost use mathlib.Core.Path.{_≡_};
 ghost use Prim.Native.Nat.{_<_};
 ghost use lib.ListN.{length, set, getD};
 ghost use mathlib.Core.List.{[], _∷_};
-ghost use Rattle.stack.specs.Stack.{tables, Pushed, Topped, Started};
+ghost use Rattle.stack.specs.Stack.{stackTables, Pushed, Topped, Started, mostWaiting};
 ghost use Rattle.problem.specs.Held.{problemOf};
 ghost use Rattle.problem.specs.Look.{Standing};
+use names::MOST_ATOMS;
 use names::NodeId;
 use permutation::Permutation;
 use problem::Places;
@@ -76,9 +77,9 @@ fn images_at(images: &[[Row; 2]], n: usize) -> [Row; 2]
 
 // One more equation, above the n that wait.
 pub fn push(heads: &mut Heads, images: &mut Images, n: usize, e: Pending)
-    requires { ⌜ n < 576 ⌝ }
-    ensures { λ r. ⌜ Pushed (tables (now (heads .entry)) (now (images .entry))) n e
-        (tables (now (heads .exit)) (now (images .exit))) ⌝ }
+    requires { ⌜ n < mostWaiting ⌝ }
+    ensures { λ r. ⌜ Pushed (stackTables (now (heads .entry)) (now (images .entry))) n e
+        (stackTables (now (heads .exit)) (now (images .exit))) ⌝ }
 {
     let left = rows::keep(e.left);
     let right = rows::keep(e.right);
@@ -88,8 +89,8 @@ pub fn push(heads: &mut Heads, images: &mut Images, n: usize, e: Pending)
 
 // The equation above n others. Its number is a byte, kept where there is room for two.
 pub fn top(heads: &Heads, images: &Images, n: usize) -> Pending
-    requires { ⌜ n < 576 ⌝ }
-    ensures { λ r. ⌜ Topped (tables (now (heads .entry)) (now (images .entry))) n r ⌝ }
+    requires { ⌜ n < mostWaiting ⌝ }
+    ensures { λ r. ⌜ Topped (stackTables (now (heads .entry)) (now (images .entry))) n r ⌝ }
 {
     let head = head_at(heads, n);
     let rows = images_at(images, n);
@@ -107,10 +108,10 @@ pub fn top(heads: &Heads, images: &Images, n: usize) -> Pending
 // The problem's equations, "the file's first on top": so the last is pushed first. count is their number.
 pub fn start(s: &[u8], places: &Places, heads: &mut Heads, images: &mut Images, count: usize)
     requires { ⌜ Standing (now s) (now places) × (count ≡ length (problemOf (now s) .equations)) ⌝ }
-    ensures { λ r. ⌜ Started (problemOf (now (s .entry)) .equations) (tables (now (heads .entry)) (now (images .entry))) count
-        (tables (now (heads .exit)) (now (images .exit))) ⌝ }
+    ensures { λ r. ⌜ Started (problemOf (now (s .entry)) .equations) (stackTables (now (heads .entry)) (now (images .entry))) count
+        (stackTables (now (heads .exit)) (now (images .exit))) ⌝ }
 {
-    let p = permutation::identity(32);
+    let p = permutation::identity(MOST_ATOMS);
     let mut n: usize = 0;
     while n < count {
         let k = count - n - 1;

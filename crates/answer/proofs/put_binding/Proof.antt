@@ -3,7 +3,7 @@ use Prim.Native.Nat.{_+_}
 use native.Mathlib.Omega.{arith}
 use mathlib.Core.Path.{ap}
 use Rattle.field.specs.Field.{bytes2}
-use Rattle.bindings.specs.Bindings.{tables, bindingAt}
+use Rattle.bindings.specs.Bindings.{bindingTables, bindingAt}
 use Rattle.bindings.proofs.Bindings.{length-imagesOf}
 use Rattle.answer.proofs.Writing.{wrote-length, wrote-same, _then_}
 use Rattle.answer.proofs.Fields.{length-two, binding-parts}
@@ -60,7 +60,7 @@ returns c =
     let at-front = at-variable .before .before .before .before in
     let node-read = at-front .before .before in
     let a = node-read .before .before .args in
-    let binding = bindingAt (a .n) (tables (a .made .now) (a .values .now)) (a .x .0) in
+    let binding = bindingAt (a .n) (bindingTables (a .made .now) (a .values .now)) (a .x .0) in
     let node-written = wrote-same (ap bytes2 (node-read .node-of .ensures)) (at-node .put-two .ensures) in
     wrote-same (binding-parts binding (a .n) (length-imagesOf (a .n) (a .values .now) (a .x .0)))
     (at-front .put-front .ensures then at-variable .put .ensures then node-written then at-images .put-images .ensures)

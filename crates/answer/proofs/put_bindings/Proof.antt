@@ -5,7 +5,7 @@ use mathlib.Core.Path.{ap}
 use mathlib.Core.List.{List, _++_}
 use lib.ListN.{length, drop}
 use borrow.Author.Needs.{needs}
-use Rattle.bindings.specs.Bindings.{Bindings, tables, variableAt, bindingAt, bindingsOf, Keeps}
+use Rattle.bindings.specs.Bindings.{Bindings, bindingTables, variableAt, bindingAt, bindingsOf, Keeps}
 use Rattle.bindings.proofs.Bindings.{keeps-few, keeps-variable}
 use Rattle.run.specs.Meaning.{Binding}
 use Rattle.run.specs.Answer.{bindingBytes}
@@ -17,7 +17,7 @@ use Rattle.answer.proofs.put_bindings.Tie as tie
 
 abbrev Inv-loop : tie.InvT-loop
 Inv-loop output₀ at made values k atoms end₀ i₀ output end i =
-    let bindings = bindingsOf atoms (tables made values) k in
+    let bindings = bindingsOf atoms (bindingTables made values) k in
     (i ≤ k) × Left output end (bindingBytes (drop i bindings)) output₀ at (bindingBytes bindings)
 
 abbrev μ-loop : tie.MeasureT-loop
@@ -25,7 +25,7 @@ abbrev μ-loop : tie.MeasureT-loop
 
 module _ (start : tie.Start Inv-loop μ-loop) where
   abbrev t : Bindings
-  t = tables (start .args .made .now) (start .args .values .now)
+  t = bindingTables (start .args .made .now) (start .args .values .now)
 
   abbrev all : List Binding
   all = bindingsOf (start .args .atoms) t (start .args .k)

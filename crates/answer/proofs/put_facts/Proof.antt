@@ -5,6 +5,7 @@ use mathlib.Core.Path.{sym, ap}
 use mathlib.Core.List.{List, _++_}
 use lib.ListN.{length}
 use borrow.Author.Needs.{needs}
+use Rattle.demands.specs.Demands.{onVariables}
 use Rattle.run.specs.Answer.{factBytes}
 use Rattle.answer.specs.Facts.{factSet, factsIn, factBytesOf}
 use Rattle.answer.proofs.Writing.{Left, left-all, left-same, left-more, left-room, left-done, wrote-same}
@@ -14,8 +15,9 @@ use Rattle.answer.proofs.put_facts.Tie as tie
 
 abbrev Inv-loop : tie.InvT-loop
 Inv-loop output₀ at asked bound atoms variables end₀ x₀ output end x =
+    let sets : List ℕ = onVariables asked in
     (x ≤ variables)
-    × Left output end (factBytes (factsOnward atoms (bound .0) asked variables x)) output₀ at (factBytes (factsIn atoms variables (bound .0) asked))
+    × Left output end (factBytes (factsOnward atoms (bound .0) sets variables x)) output₀ at (factBytes (factsIn atoms variables (bound .0) sets))
 
 abbrev μ-loop : tie.MeasureT-loop
 μ-loop output₀ at asked bound atoms variables end₀ x₀ output end x = variables - x
@@ -23,7 +25,7 @@ abbrev μ-loop : tie.MeasureT-loop
 -- In a turn: the facts of this variable and those of the variables after it are left, and there is room for them.
 module _ (c : tie.In-loop Inv-loop μ-loop) where
   abbrev start : tie.Start Inv-loop μ-loop
-  start = c .before .before .before .before
+  start = c .before .before .before
 
   abbrev x : ℕ
   x = c .before .loop .x
@@ -35,7 +37,7 @@ module _ (c : tie.In-loop Inv-loop μ-loop) where
   bound = start .args .bound .0
 
   abbrev asked : List ℕ
-  asked = start .args .asked .now
+  asked = onVariables (start .args .asked .now)
 
   abbrev variables : ℕ
   variables = start .args .variables
@@ -48,19 +50,19 @@ module _ (c : tie.In-loop Inv-loop μ-loop) where
   here-left = left-same (bytes-here A bound asked variables x (omega arith)) (c .before .loop .inv .1)
 
   has-room : c .before .loop .end + length here ≤ length (c .before .loop .output)
-  has-room = left-room here _ here-left (start .pre .3)
+  has-room = left-room here _ here-left (start .pre .2)
 
 loop-holds : tie.Need-loop-holds Inv-loop μ-loop
 loop-holds c =
-    let a = c .before .before .args in
-    let all-left = ap factBytes (sym (onward-start (a .atoms) (a .bound .0) (a .asked .now) (a .variables))) in
+    let a = c .before .args in
+    let all-left = ap factBytes (sym (onward-start (a .atoms) (a .bound .0) (onVariables (a .asked .now)) (a .variables))) in
     (search needs, left-same all-left (left-all _ _ _))
+
+cast-t12 : tie.Need-cast-t12 Inv-loop μ-loop
+cast-t12 c = search needs
 
 fact-set-requires : tie.Need-fact-set-requires Inv-loop μ-loop
 fact-set-requires c κs = search needs
-
-cast-t13 : tie.Need-cast-t13 Inv-loop μ-loop
-cast-t13 c = search needs
 
 put-facts-of-requires : tie.Need-put-facts-of-requires Inv-loop μ-loop
 put-facts-of-requires c κs = rw (c .before .fact-set .ensures) (has-room (c .before .before))
@@ -84,8 +86,8 @@ same-length c = c .before .loop .inv .1 .long
 returns : tie.Need-returns Inv-loop μ-loop
 returns c =
     let in-loop = c .before in
-    let a = in-loop .before .before .before .args in
-    left-done (in-loop .loop .inv .1) (bytes-end (a .atoms) (a .bound .0) (a .asked .now) (a .variables) (in-loop .loop .x) (omega arith))
+    let a = in-loop .before .before .args in
+    left-done (in-loop .loop .inv .1) (bytes-end (a .atoms) (a .bound .0) (onVariables (a .asked .now)) (a .variables) (in-loop .loop .x) (omega arith))
 
 pub put-facts-spec : {M : Type 1} → statement M
 put-facts-spec =
@@ -94,8 +96,8 @@ put-facts-spec =
     Inv-loop
     μ-loop
     loop-holds
+    cast-t12
     fact-set-requires
-    cast-t13
     put-facts-of-requires
     add-x
     loop-less

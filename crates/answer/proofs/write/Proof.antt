@@ -4,7 +4,7 @@ use native.Mathlib.Omega.{arith}
 use mathlib.Core.Path.{_≡_, refl, sym, ap, _∙_}
 use mathlib.Core.List.{List}
 use lib.ListN.{length}
-use Rattle.bindings.specs.Bindings.{Bindings, tables, bindingsOf}
+use Rattle.bindings.specs.Bindings.{Bindings, bindingTables, bindingsOf}
 use Rattle.demands.specs.Demands.{onVariables}
 use Rattle.run.specs.Meaning.{Binding, Fact}
 use Rattle.run.specs.Answer.{bindingBytes, answerBytes}
@@ -21,7 +21,7 @@ use Rattle.answer.proofs.write.Tie as tie
 -- What is to be written.
 module _ (start : tie.Start) where
   abbrev t : Bindings
-  t = tables (start .args .made .now) (start .args .values .now)
+  t = bindingTables (start .args .made .now) (start .args .values .now)
 
   abbrev k : ℕ
   k = start .args .k
@@ -47,7 +47,7 @@ module _ (start : tie.Start) where
 -- Once the facts are counted the length is known.
 module _ (c : tie.After-count-facts) where
   abbrev start : tie.Start
-  start = c .before .before .before .before
+  start = c .before .before
 
   counted : c .count-facts .result ≡ length (facts start)
   counted = c .count-facts .ensures
@@ -59,9 +59,6 @@ module _ (c : tie.After-count-facts) where
   wanted =
       length-answer (A start) (t start) (k start) (start .args .bound .0) (start .pre .0) (start .args .steps) (facts start)
       ∙ ap (λ (n : ℕ). 7 + k start * (6 + A start) + 5 * n) (sym counted)
-
-index-1-count-facts : tie.Need-index-1-count-facts
-index-1-count-facts c = search needs
 
 count-facts-requires : tie.Need-count-facts-requires
 count-facts-requires c κs = search needs
@@ -114,19 +111,15 @@ put-bindings-requires c κs =
       omega (arith, steps-end at-steps, steps-room at-steps, wrote-length (at-steps .put-steps .ensures)),
     )
 
-index-1-put-facts : tie.Need-index-1-put-facts
-index-1-put-facts c = search needs
-
 put-facts-requires : tie.Need-put-facts-requires
 put-facts-requires c κs =
-    let at-bindings = c .before .before .before .before .before in
+    let at-bindings = c .before .before .before in
     let at-steps = at-bindings .before .before .before .before in
     let start = begun at-steps in
     let steps-length = wrote-length (at-steps .put-steps .ensures) in
     let bindings-end = at-bindings .put-bindings .ensures .ends in
     let bindings-length = wrote-length (at-bindings .put-bindings .ensures) in (
       start .pre .2,
-      search needs,
       start .pre .1,
       omega (arith, steps-end at-steps, steps-room at-steps, steps-length, bindings-end, bindings-length, length-factBytes (facts start)),
     )
@@ -137,7 +130,7 @@ same-length c = search needs
 returns-2 : tie.Need-returns-2
 returns-2 c =
     let at-facts = c .before .before in
-    let at-bindings = at-facts .before .before .before .before .before .before in
+    let at-bindings = at-facts .before .before .before .before in
     let at-steps = at-bindings .before .before .before .before in
     let at-count = at-fit at-steps .before in
     let start = begun at-steps in
@@ -150,7 +143,6 @@ pub write-spec : {M : Type 1} → statement M
 write-spec =
     tie.close
     (tie.spec
-    index-1-count-facts
     count-facts-requires
     add-wanted
     mul-wanted
@@ -160,7 +152,6 @@ write-spec =
     returns
     put-steps-requires
     put-bindings-requires
-    index-1-put-facts
     put-facts-requires
     same-length
     returns-2)

@@ -3,7 +3,7 @@ use Prim.Native.Nat.{_<_}
 use native.Mathlib.Omega.{arith}
 use mathlib.Core.Path.{_≡_}
 use lib.ListN.{length}
-use Rattle.bindings.specs.Bindings.{tables, putIn, withBinding}
+use Rattle.bindings.specs.Bindings.{bindingTables, putIn, withBinding}
 use Rattle.bindings.proofs.Bindings.{keeps-room, room, added}
 use borrow.Author.Needs.{needs}
 use Rattle.bindings.proofs.add.Statement.{statement}
@@ -57,7 +57,7 @@ returns c =
     let at-order = at-node .before .before .before in
     let start = at-order .before .before .before in
     let a = start .args in
-    let t = tables (a .made .now) (a .values .now) in
+    let t = bindingTables (a .made .now) (a .values .now) in
     -- Each table was seen to have its place where it was about to be written.
     let order-length = at-order .put-arg .given .0 .1 in
     let nodes-length = at-node .put-arg2 .given .0 .1 in

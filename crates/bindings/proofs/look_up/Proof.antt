@@ -5,7 +5,7 @@ use mathlib.Core.Path.{_≡_, sym, _∙_}
 use mathlib.Core.Bool.{true, false}
 use Rattle.sets.specs.Bits.{member}
 use Rattle.sets.proofs.Bits.{member-within}
-use Rattle.bindings.specs.Bindings.{tables}
+use Rattle.bindings.specs.Bindings.{bindingTables}
 use Rattle.bindings.proofs.Bindings.{looked-up-bound, looked-up-unbound}
 use borrow.Author.Needs.{needs}
 use Rattle.bindings.proofs.look_up.Statement.{statement}
@@ -54,7 +54,8 @@ returns c =
     let at-load = c .before in
     let images-loaded = at-load .load .ensures in
     let node-read = c .node-of .ensures in
-    looked-up-bound (tables (a .made .now) (a .values .now)) (a .bound .0) (a .x .0) _ (is-bound at-then) (rw (images-loaded, node-read)) (whole-images at-load)
+    looked-up-bound (bindingTables (a .made .now) (a .values .now)) (a .bound .0) (a .x .0) _ (is-bound at-then) (rw (images-loaded, node-read))
+    (whole-images at-load)
 
 -- ---- another
 
@@ -66,7 +67,7 @@ returns-2 c =
     let at-has = c .before .before in
     let a = at-has .before .args in
     let not-bound : member (a .bound .0) (a .x .0) ≡ false = sym (at-has .has .ensures) ∙ c .before .if1 .left in
-    looked-up-unbound (tables (a .made .now) (a .values .now)) (a .bound .0) (a .x .0) _ not-bound (rw (c .identity .ensures))
+    looked-up-unbound (bindingTables (a .made .now) (a .values .now)) (a .bound .0) (a .x .0) _ not-bound (rw (c .identity .ensures))
 
 pub look-up-spec : {M : Type 1} → statement M
 look-up-spec =

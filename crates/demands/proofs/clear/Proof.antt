@@ -5,7 +5,7 @@ use mathlib.Core.List.{List, []}
 use Prim.Native.Nat.{ℕ}
 use lib.ListN.{set}
 use lib.Seq.{getD-set-other}
-use Rattle.demands.specs.Demands.{onNodes, onVariables, emptied, cleared}
+use Rattle.demands.specs.Demands.{onNodes, onVariables, emptied, demandsCleared}
 use borrow.Author.Needs.{needs}
 use Rattle.demands.proofs.clear.Statement.{statement}
 use Rattle.demands.proofs.clear.Tie as tie
@@ -23,7 +23,7 @@ empty-rows-requires-2 : tie.Need-empty-rows-requires-2
 empty-rows-requires-2 c κs = search needs
 
 returns : tie.Need-returns
-unfolding cleared
+unfolding demandsCleared
 returns c =
     let nodes-emptied = c .before .before in
     let start = nodes-emptied .before .before in

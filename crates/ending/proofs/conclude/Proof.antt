@@ -1,8 +1,9 @@
 -- `conclude` meets its contract: the demands that were resolved decide, and then whether the answer fits.
+use mathlib.Core.Path.{_∙_}
 use borrow.Author.Needs.{needs}
 use Rattle.problem.proofs.Counted.{all-atoms, all-variables}
 use Rattle.ending.proofs.Resolving.{bound-in, solver-small, solver-outcome, few-atoms, few-variables}
-use Rattle.ending.proofs.Deciding.{conclude-not-fresh, conclude-accepted, conclude-short}
+use Rattle.ending.proofs.Deciding.{conclude-not-fresh, the-answer}
 use Rattle.ending.proofs.conclude.Statement.{statement}
 use Rattle.ending.proofs.conclude.Tie as tie
 
@@ -18,14 +19,18 @@ resolve-requires c κs =
     let (read, ended) = at-added .before .before .before .before .before .pre in
     ((read .standing, read .counts), (bound-in (ended .meant), solver-small read ended (at-added .add-assumptions .ensures)))
 
+give-requires : tie.Need-give-requires
+give-requires c κs = search needs
+
 returns : tie.Need-returns
 returns c =
-    let at-resolved = c .before in
+    let at-fails = c .before in
+    let at-resolved = at-fails .before in
     let at-added = at-resolved .before .before .before in
     let (read, _) = at-added .before .before .before .before .before .pre in
     λ ended.
     let outcome = solver-outcome read ended (at-added .add-assumptions .ensures) (at-resolved .resolve .ensures) in
-    conclude-not-fresh (read .standing .readable) ended outcome (c .if1 .taken)
+    conclude-not-fresh (read .standing .readable) ended outcome (at-fails .if1 .taken) (c .give .ensures)
 
 cast-write : tie.Need-cast-write
 cast-write c = search needs
@@ -41,7 +46,7 @@ same-length c = search needs
 
 returns-2 : tie.Need-returns-2
 returns-2 c =
-    let at-written = c .before .before .before .before in
+    let at-written = c .before .before in
     let at-quiet = at-written .before .before .before .before in
     let at-resolved = at-quiet .before in
     let at-added = at-resolved .before .before .before in
@@ -49,24 +54,8 @@ returns-2 c =
     let (read, _) = at-start .pre in
     λ ended.
     let outcome = solver-outcome read ended (at-added .add-assumptions .ensures) (at-resolved .resolve .ensures) in
-    conclude-accepted (read .standing .readable) ended outcome (at-quiet .if1 .left) (all-atoms _ (read .counts)) (all-variables _ (read .counts))
-    (at-written .write .result) (at-start .args .output .now) _ (at-written .write .ensures) (c .if2 .taken)
-
-same-length-2 : tie.Need-same-length-2
-same-length-2 c = search needs
-
-returns-3 : tie.Need-returns-3
-returns-3 c =
-    let at-written = c .before .before .before .before in
-    let at-quiet = at-written .before .before .before .before in
-    let at-resolved = at-quiet .before in
-    let at-added = at-resolved .before .before .before in
-    let at-start = at-added .before .before .before .before .before in
-    let (read, _) = at-start .pre in
-    λ ended.
-    let outcome = solver-outcome read ended (at-added .add-assumptions .ensures) (at-resolved .resolve .ensures) in
-    conclude-short (read .standing .readable) ended outcome (at-quiet .if1 .left) (all-atoms _ (read .counts)) (all-variables _ (read .counts))
-    (at-written .write .result) (at-start .args .output .now) _ (at-written .write .ensures) (c .if2 .left)
+    at-written .write .ensures
+    ∙ the-answer (read .standing .readable) ended outcome (at-quiet .if1 .left) (all-atoms _ (read .counts)) (all-variables _ (read .counts)) _
 
 pub conclude-spec : {M : Type 1} → statement M
 conclude-spec =
@@ -75,10 +64,9 @@ conclude-spec =
     cast-variables
     add-assumptions-requires
     resolve-requires
+    give-requires
     returns
     cast-write
     write-requires
     same-length
-    returns-2
-    same-length-2
-    returns-3)
+    returns-2)

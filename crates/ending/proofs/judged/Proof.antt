@@ -11,12 +11,17 @@ resolve-requires c κs =
     let (read, (_, _, ended)) = c .before .before .before .pre in
     ((read .standing, read .counts), (bound-in (ended .meant), ended .small))
 
+give-requires : tie.Need-give-requires
+give-requires c κs = search needs
+
 returns : tie.Need-returns
 returns c =
-    let at-resolved = c .before in
+    let at-fails = c .before in
+    let at-resolved = at-fails .before in
     let (read, _) = at-resolved .before .before .before .before .pre in
     λ count steps ended.
-    judge-not-fresh (read .standing .readable) ended (at-resolved .resolve .ensures count (ended .meant) _ (ended .asks)) (c .if1 .taken)
+    let outcome = at-resolved .resolve .ensures count (ended .meant) _ (ended .asks) in
+    judge-not-fresh (read .standing .readable) ended outcome (at-fails .if1 .taken) (c .give .ensures)
 
 words-requires : tie.Need-words-requires
 words-requires c κs = search needs
@@ -29,9 +34,13 @@ all-assumed-requires c κs =
     let at-start = c .before .before .before .before .before .before .before .before .before in
     few-variables (at-start .pre .0)
 
+give-requires-2 : tie.Need-give-requires-2
+give-requires-2 c κs = search needs
+
 returns-2 : tie.Need-returns-2
 returns-2 c =
-    let at-asked = c .before in
+    let at-all = c .before in
+    let at-asked = at-all .before in
     let at-words = at-asked .before .before .before in
     let at-quiet = at-words .before .before in
     let at-resolved = at-quiet .before in
@@ -40,11 +49,16 @@ returns-2 c =
     λ count steps ended.
     let outcome = at-resolved .resolve .ensures count (ended .meant) _ (ended .asks) in
     judge-holds (read .standing .readable) ended outcome (at-quiet .if1 .left) (at-words .words .ensures .1) (at-start .args .assumed .now)
-    (read .assumptions) (all-variables _ (read .counts)) (at-asked .all-assumed .ensures) (c .if2 .taken)
+    (read .assumptions) (all-variables _ (read .counts)) (at-asked .all-assumed .ensures) (at-all .if2 .taken)
+    (c .give2 .ensures)
+
+give-requires-3 : tie.Need-give-requires-3
+give-requires-3 c κs = search needs
 
 returns-3 : tie.Need-returns-3
 returns-3 c =
-    let at-asked = c .before in
+    let at-not-all = c .before in
+    let at-asked = at-not-all .before in
     let at-words = at-asked .before .before .before in
     let at-quiet = at-words .before .before in
     let at-resolved = at-quiet .before in
@@ -53,7 +67,20 @@ returns-3 c =
     λ count steps ended.
     let outcome = at-resolved .resolve .ensures count (ended .meant) _ (ended .asks) in
     judge-does-not (read .standing .readable) ended outcome (at-quiet .if1 .left) (at-words .words .ensures .1) (at-start .args .assumed .now)
-    (read .assumptions) (all-variables _ (read .counts)) (at-asked .all-assumed .ensures) (c .if2 .left)
+    (read .assumptions) (all-variables _ (read .counts)) (at-asked .all-assumed .ensures) (at-not-all .if2 .left)
+    (c .give3 .ensures)
 
 pub judged-spec : {M : Type 1} → statement M
-judged-spec = tie.close (tie.spec resolve-requires returns words-requires cast-all-assumed all-assumed-requires returns-2 returns-3)
+judged-spec =
+    tie.close
+    (tie.spec
+    resolve-requires
+    give-requires
+    returns
+    words-requires
+    cast-all-assumed
+    all-assumed-requires
+    give-requires-2
+    returns-2
+    give-requires-3
+    returns-3)

@@ -7,20 +7,17 @@ use Rattle.fresh.specs.Marks.{newAt}
 use Rattle.fresh.proofs.new_at.Statement.{statement}
 use Rattle.fresh.proofs.new_at.Tie as tie
 
-cast-i : tie.Need-cast-i
-cast-i c = search needs
+of-variable-requires : tie.Need-of-variable-requires
+of-variable-requires c κs = search needs
 
 shared-slice-element-atoms-at : tie.Need-shared-slice-element-atoms-at
 shared-slice-element-atoms-at c = search needs
 
+cast-atoms-at : tie.Need-cast-atoms-at
+cast-atoms-at c = search needs
+
 atoms-at-requires : tie.Need-atoms-at-requires
 atoms-at-requires c κs = search needs
-
-shared-slice-element-atoms-at-2 : tie.Need-shared-slice-element-atoms-at-2
-shared-slice-element-atoms-at-2 c = search needs
-
-atoms-at-requires-2 : tie.Need-atoms-at-requires-2
-atoms-at-requires-2 c κs = search needs
 
 minus-requires : tie.Need-minus-requires
 minus-requires c κs = search needs
@@ -28,18 +25,17 @@ minus-requires c κs = search needs
 returns : tie.Need-returns
 unfolding newAt
 returns c =
-    let asked = c .before .before .before .before .atoms-at in
-    let done = c .before .atoms-at2 in
+    let done = c .before .atoms-at in
+    let asked = c .before .before .before .before .before .of-variable in
     (c .minus .ensures ∙ ap₂ difference (asked .ensures) (done .ensures), omega (arith, done .ensures))
 
 pub new-at-spec : {M : Type 1} → statement M
 new-at-spec =
     tie.close
     (tie.spec
-    cast-i
+    of-variable-requires
     shared-slice-element-atoms-at
+    cast-atoms-at
     atoms-at-requires
-    shared-slice-element-atoms-at-2
-    atoms-at-requires-2
     minus-requires
     returns)

@@ -19,7 +19,7 @@ use Rattle.fresh.proofs.pass_on.Tie as tie
 
 module _ (c : tie.After-new-at) where
   abbrev start : tie.Start
-  start = c .before .before .before .before .before .before
+  start = c .before .before .before .before .before
 
   abbrev problem : Problem
   problem = problemOf (start .args .s .now)
@@ -36,11 +36,8 @@ module _ (c : tie.After-new-at) where
   abbrev new : ℕ
   new = c .new-at .result .0
 
-  two-asked : length asked ≡ 2
-  two-asked = c .before .before .before .new-at-arg2 .given .0
-
   two-marks : length marks ≡ 2
-  two-marks = c .before .new-at-arg4 .given .0
+  two-marks = c .before .new-at-arg3 .given .0
 
   is-new : new ≡ newAt (onVariables asked) (doneIn marks) X
   is-new = c .new-at .ensures .0
@@ -109,7 +106,7 @@ returns : tie.Need-returns
 returns c =
     let here = c .before .before .before in
     let waits = start (found here) .pre .1 .1 in
-    passed-on (two-asked (found here)) (two-marks (found here)) (in-done here) (done-word (found here)) (new-word (found here)) waits
+    passed-on (two-marks (found here)) (in-done here) (done-word (found here)) (new-word (found here)) waits
     (is-new (found here)) (is-done here) (rw (← is-sent here, ← is-node here) (c .visit .ensures))
 
 pub pass-on-spec : {M : Type 1} → statement M

@@ -18,7 +18,7 @@ is-empty-requires c κs = search needs
 
 returns : tie.Need-returns
 returns c =
-    let test = c .before .before .before .before in
+    let test = c .before .before .before in
     let new = c .before .new-at .result .0 in
     let is-new = c .before .new-at .ensures .0 in
     record {

@@ -3,7 +3,7 @@ use Prim.Native.Nat.{ℕ}
 use mathlib.Core.List.{List}
 use Rattle.run.specs.Answer as run
 use Rattle.exchange.proofs.Exchanging as answer
-use Rattle.judge.specs.Printing.{lineOf}
+use Rattle.judge.specs.Printing.{judgeLineOf}
 use borrow.Author.Needs.{needs}
 use Rattle.judge.proofs.serve.Statement.{statement}
 use Rattle.judge.proofs.serve.Tie as tie
@@ -15,7 +15,7 @@ abbrev place : List ℕ → ℕ
 place problem = run.judge problem .1
 
 abbrev text : List ℕ → List ℕ
-text problem = lineOf (run.judge problem)
+text problem = judgeLineOf (run.judge problem)
 
 fill-requires : tie.Need-fill-requires
 fill-requires c κs = search needs

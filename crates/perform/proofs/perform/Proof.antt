@@ -8,6 +8,7 @@ use Rattle.problem.specs.Held.{problemOf}
 use Rattle.problem.specs.Readable.{Readable}
 use Rattle.rule.specs.declared.Act.{Act}
 use Rattle.rule.specs.declared.Act.the-variants.{Done, Clash, Inside, Protection}
+use Rattle.stack.specs.Stack.{mostWaiting}
 use Rattle.perform.specs.Performed.{Takes}
 use Rattle.perform.proofs.Performing.{swapped-is, refused-by, gone-pushed, gone-renamed, gone-same, gone-bound}
 use Rattle.perform.proofs.perform.Statement.{statement}
@@ -91,7 +92,7 @@ module _ (c : tie.After-known-told) where
   abbrev part-start : tie.Start
   part-start = c .before .before .before .before .before .before .before .before .before
 
-  part-room : part-start .args .state .waiting < 576
+  part-room : part-start .args .state .waiting < mostWaiting
   part-room = takes part-start _ (c .before .act .given .1)
 
 one-part-requires : tie.Need-one-part-requires
@@ -119,7 +120,7 @@ module _ (c : tie.After-known-told2) where
   abbrev parts-start : tie.Start
   parts-start = c .before .before .before .before .before .before .before .before .before
 
-  parts-room : parts-start .args .state .waiting + 1 < 576
+  parts-room : parts-start .args .state .waiting + 1 < mostWaiting
   parts-room = takes parts-start _ (c .before .act2 .given .1)
 
 two-parts-requires : tie.Need-two-parts-requires
@@ -150,7 +151,7 @@ module _ (c : tie.After-known-told3) where
   abbrev renamed-start : tie.Start
   renamed-start = c .before .before .before .before .before .before .before .before .before
 
-  renamed-room : renamed-start .args .state .waiting < 576
+  renamed-room : renamed-start .args .state .waiting < mostWaiting
   renamed-room = takes renamed-start _ (c .before .act3 .given .1) .0
 
 one-part-requires-2 : tie.Need-one-part-requires-2

@@ -3,7 +3,7 @@ use Prim.Native.Nat.{ℕ}
 use mathlib.Core.List.{List}
 use Rattle.run.specs.Answer as run
 use Rattle.exchange.proofs.Exchanging as answer
-use Rattle.solve.specs.Printing.{linesOf}
+use Rattle.solve.specs.Printing.{solverLinesOf}
 use borrow.Author.Needs.{needs}
 use Rattle.solve.proofs.serve.Statement.{statement}
 use Rattle.solve.proofs.serve.Tie as tie
@@ -15,7 +15,7 @@ abbrev place : List ℕ → List ℕ → ℕ
 place output problem = run.solve problem output .place
 
 abbrev text : List ℕ → List ℕ → List ℕ
-text output problem = linesOf (run.solve problem output)
+text output problem = solverLinesOf (run.solve problem output)
 
 fill-requires : tie.Need-fill-requires
 fill-requires c κs = search needs

@@ -6,36 +6,33 @@ use mathlib.Core.Path.{_≡_, _∙_, ap}
 use lib.ListN.{length}
 use Rattle.field.specs.Field.{Bytes}
 use Rattle.run.specs.Answer as run
-use Rattle.numbers.specs.Verdicts.{verdictNumber, verdictPlace, resultOf}
-use Rattle.numbers.specs.declared.Verdict.{Verdict}
+use Rattle.numbers.specs.declared.Given.{Given}
+use Rattle.numbers.specs.Numbers.{resultOf}
 use Rattle.printer.specs.Lines.{solverLines}
 use Rattle.printer.specs.Placed.{Placed}
 use Rattle.printer.proofs.Fitting.{solver-length, placed-whole}
-use Rattle.solve.specs.Printing.{linesOf}
-use Rattle.solve.specs.Serving.{Works}
+use Rattle.solve.specs.Printing.{solverLinesOf}
+use Rattle.solve.specs.Serving.{SolverWorks}
 use borrow.Author.Needs.{needs}
 use Rattle.solve.proofs.work.Statement.{statement}
 use Rattle.solve.proofs.work.Tie as tie
 
 -- What is printed of the number and the place is the lines, where the solver gave back what the definition says; and they are there whole.
 told :
-    {n p r : ℕ} {o d e : List ℕ} (v : Verdict) (s : run.Result) → resultOf v o ≡ s → (n ≡ verdictNumber v) × (p ≡ verdictPlace v) →
-    n < 256 → p < 18446744073709551616 → Bytes o → 4 * length o ≤ length d → 33 ≤ length d →
-    Placed d 0 (solverLines n p o) r e → Works s e (record { given = record { number = n; place = p }; end = r })
-told {n} {p} {r} {o} {d} {e} v s f a x y z l m h =
-    let same : solverLines n p o ≡ linesOf s = cc in record {
-      lines = placed-whole h (omega (arith, solver-length n p o (length d) x y z l m)) ∙ same;
-      number = a .0 ∙ ap (λ (t : run.Result). t .number) f;
-      place = a .1 ∙ ap (λ (t : run.Result). t .place) f;
+    {r : ℕ} {o d e : List ℕ} (g : Given) (s : run.Result) → resultOf g o ≡ s →
+    g .number < 256 → g .place < 18446744073709551616 → Bytes o → 4 * length o ≤ length d → 33 ≤ length d →
+    Placed d 0 (solverLines (g .number) (g .place) o) r e → SolverWorks s e (record { given = g; end = r })
+told {r} {o} {d} {e} g s f x y z l m h =
+    let same : solverLines (g .number) (g .place) o ≡ solverLinesOf s = cc in record {
+      lines = placed-whole h (omega (arith, solver-length (g .number) (g .place) o (length d) x y z l m)) ∙ same;
+      number = ap (λ (t : run.Result). t .number) f;
+      place = ap (λ (t : run.Result). t .place) f;
       within = h .within;
       counts = h .counts;
     }
 
 solve-requires : tie.Need-solve-requires
 solve-requires c κs = search needs
-
-of-verdict-requires : tie.Need-of-verdict-requires
-of-verdict-requires c κs = search needs
 
 solver-lines-requires : tie.Need-solver-lines-requires
 solver-lines-requires c κs = search needs
@@ -48,16 +45,14 @@ same-length-2 c = search needs
 
 returns : tie.Need-returns
 returns c =
-    let given = c .before .before .before .before .before in
-    let known = given .before in
+    let known = c .before .before .before .before .before in
     let solved = known .before .before in
     let start = solved .before .before .before .before .before in
-    let small = given .of-verdict .ok in
+    let small = solved .solve .ok in
     told
     (solved .solve .result)
     _
     (solved .solve .ensures)
-    (given .of-verdict .ensures)
     (omega (arith, small))
     (omega (arith, small))
     (λ i. known .slice-known3 .given i .fits)
@@ -70,7 +65,6 @@ work-spec =
     tie.close
     (tie.spec
     solve-requires
-    of-verdict-requires
     solver-lines-requires
     same-length
     same-length-2

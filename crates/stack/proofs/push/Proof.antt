@@ -1,7 +1,7 @@
 -- `push` meets its contract: both tables are written at place n, and that is the definition's push.
 use Prim.Native.Nat.{_<_}
 use native.Mathlib.Omega.{arith}
-use Rattle.stack.specs.Stack.{tables, withEquation}
+use Rattle.stack.specs.Stack.{stackTables, withEquation}
 use Rattle.stack.proofs.Stack.{Room, pushed}
 use borrow.Author.Needs.{needs}
 use Rattle.stack.proofs.push.Statement.{statement}
@@ -33,7 +33,7 @@ returns c =
     let left-kept = right-kept .before in
     let at-start = left-kept .before in
     let a = at-start .args in
-    let room : Room (a .n) (tables (a .heads .now) (a .images .now)) =
+    let room : Room (a .n) (stackTables (a .heads .now) (a .images .now)) =
     record {
       heads = omega (arith, at-start .pre, head-put .before .before .put-head-arg .given .0 .1);
       images = omega (arith, at-start .pre, c .before .put-images-arg .given .0 .1);

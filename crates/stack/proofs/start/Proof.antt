@@ -8,14 +8,14 @@ use Rattle.permutation.specs.Table.{identity}
 use Rattle.permutation.specs.Store.{ofTable}
 use Rattle.problem.specs.Held.{problemOf}
 use Rattle.problem.specs.Look.{EquationStands}
-use Rattle.stack.specs.Stack.{tables}
+use Rattle.stack.specs.Stack.{stackTables}
 use Rattle.stack.proofs.Stack.{Starting, starting-none, starting-more, starting-all}
 use Rattle.stack.proofs.start.Statement.{statement}
 use Rattle.stack.proofs.start.Tie as tie
 
 abbrev Inv-loop : tie.InvT-loop
 Inv-loop s places heads₀ images₀ count p n₀ heads images n =
-    (n ≤ count) × Starting (problemOf s .equations) (tables heads₀ images₀) count n (tables heads images)
+    (n ≤ count) × Starting (problemOf s .equations) (stackTables heads₀ images₀) count n (stackTables heads images)
 
 abbrev μ-loop : tie.MeasureT-loop
 μ-loop s places heads₀ images₀ count p n₀ heads images n = count - n

@@ -3,8 +3,9 @@ use Prim.Native.Nat.{_-_}
 use native.Mathlib.Omega.{arith}
 use mathlib.Core.Path.{_≡_, refl, _∙_}
 use lib.ListN.{length}
-use Rattle.stream.specs.declared.How.the-variants.{Open}
-use Rattle.stream.proofs.Turning.{Gone, gone, ends}
+use Rattle.standing.specs.declared.How.the-variants.{Open}
+use Rattle.standing.proofs.Settling.{ends}
+use Rattle.stream.proofs.Turning.{Gone, gone}
 use borrow.Author.Needs.{needs}
 use Rattle.stream.proofs.all.Statement.{statement}
 use Rattle.stream.proofs.all.Tie as tie

@@ -16,6 +16,9 @@ abbrev μ-loop : tie.MeasureT-loop
 loop-holds : tie.Need-loop-holds Inv-loop μ-loop
 loop-holds c = (omega arith, covered-start _ _ _ _)
 
+cast-t7 : tie.Need-cast-t7 Inv-loop μ-loop
+cast-t7 c = search needs
+
 covers-requires : tie.Need-covers-requires Inv-loop μ-loop
 covers-requires c κs = search needs
 
@@ -47,6 +50,7 @@ all-assumed-spec =
     Inv-loop
     μ-loop
     loop-holds
+    cast-t7
     covers-requires
     returns
     add-x

@@ -8,24 +8,24 @@ use mathlib.Core.List.{List}
 use Rattle.names.specs.declared.NodeId.{NodeId}
 use Rattle.permutation.specs.declared.Permutation.{Permutation}
 use Rattle.run.specs.Meaning as meaning
-use Rattle.bindings.specs.Bindings.{Bindings, tables}
-use Rattle.rule.specs.Side.{sideAt, Resolved}
+use Rattle.bindings.specs.Bindings.{Bindings, bindingTables}
+use Rattle.rule.specs.Side.{sideAt, SideResolved}
 use Rattle.rule.specs.declared.side.Side.{Side}
 use Rattle.rule.proofs.Resolving.{resolved-itself}
 use Rattle.machine.proofs.Stepping.{few, left-there, right-there, nodes-there, nodes-small, takes, step-is}
 use Rattle.machine.proofs.step.step.Statement.{statement}
 use Rattle.machine.proofs.step.step.Tie as tie
 
-same-side : {s : List ℕ} {A : ℕ} {t : Bindings} {bound k : ℕ} {before : meaning.Side} {x y : Side} → x ≡ y → Resolved s A t bound k before y
-    → Resolved s A t bound k before x
+same-side : {s : List ℕ} {A : ℕ} {t : Bindings} {bound k : ℕ} {before : meaning.Side} {x y : Side} → x ≡ y → SideResolved s A t bound k before y
+    → SideResolved s A t bound k before x
 same-side e h = rw e h
 
 -- What a side of the equation is resolved to, with the bindings as they are at the start.
 module _ (c : tie.Start) where
   abbrev Side-resolved : Permutation → NodeId → Side → Type 0
   Side-resolved p n r =
-      let bindings : Bindings = tables (c .args .made .now) (c .args .values .now) in
-      Resolved (c .args .s .now) (c .args .atoms) bindings (c .args .state .bound .0) (c .args .state .count) (sideAt (c .args .atoms) p n) r
+      let bindings : Bindings = bindingTables (c .args .made .now) (c .args .values .now) in
+      SideResolved (c .args .s .now) (c .args .atoms) bindings (c .args .state .bound .0) (c .args .state .count) (sideAt (c .args .atoms) p n) r
 
 -- ---- the left side
 

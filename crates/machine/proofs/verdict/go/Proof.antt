@@ -8,8 +8,8 @@ use borrow.Author.Needs.{needs}
 use Rattle.stack.specs.Stack as pending
 use Rattle.bindings.specs.Bindings as bindings
 use Rattle.demands.specs.Demands.{sheet}
-use Rattle.perform.specs.declared.Outcome.the-variants.{Goes}
 use Rattle.perform.specs.Performed.{tablesOf}
+use Rattle.perform.specs.declared.Outcome.the-variants.{Goes}
 use Rattle.machine.specs.Step.{Footing}
 use Rattle.machine.proofs.Running.{Going, going-start, going-few, going-done, going-present, going-limit, going-refused, going-next}
 use Rattle.machine.proofs.verdict.go.Statement.{statement}
@@ -18,7 +18,8 @@ use Rattle.machine.proofs.verdict.go.Tie as tie
 abbrev Inv-loop : tie.InvT-loop
 Inv-loop s places node-variables heads₀ images₀ made₀ values₀ asked₀ firsts₀ atoms protected limit state₀ steps₀ heads images made values asked
     firsts state steps =
-    Going s atoms (protected .0) limit (tablesOf (pending.tables heads images) (bindings.tables made values) (sheet asked firsts)) steps state
+    Going s atoms (protected .0) limit (bindings.bindingsOf atoms (bindings.bindingTables made₀ values₀) (state₀ .count))
+    (tablesOf (pending.stackTables heads images) (bindings.bindingTables made values) (sheet asked firsts)) steps state
 
 abbrev μ-loop : tie.MeasureT-loop
 μ-loop s places node-variables heads₀ images₀ made₀ values₀ asked₀ firsts₀ atoms protected limit state₀ steps₀ heads images made values asked
@@ -41,10 +42,14 @@ module _ (c : tie.At-loop Inv-loop μ-loop) where
 
 -- ---- no equation is left
 
+give-requires : tie.Need-give-requires Inv-loop μ-loop
+give-requires c κs = tt
+
 returns : tie.Need-returns Inv-loop μ-loop
 returns c =
-    let turn = c .before .before in
-    going-done (footing turn) (turn .loop .inv) (c .if1 .taken)
+    let at-none = c .before in
+    let turn = at-none .before .before in
+    going-done (footing turn) (turn .loop .inv) (at-none .if1 .taken) (c .give .ensures)
 
 -- ---- the top is taken
 
@@ -67,11 +72,18 @@ module _ (c : tie.After-top Inv-loop μ-loop) where
   some : turn .loop .state .waiting ≢ 0
   some = let at-some = c .before .before .before .before in at-some .if1 .left
 
+cast-give : tie.Need-cast-give Inv-loop μ-loop
+cast-give c = search needs
+
+give-requires-2 : tie.Need-give-requires-2 Inv-loop μ-loop
+give-requires-2 c κs = tt
+
 returns-2 : tie.Need-returns-2 Inv-loop μ-loop
 returns-2 c =
-    let at-top = c .before in
+    let at-limit = c .before .before in
+    let at-top = at-limit .before in
     let here = turn at-top in
-    going-limit (footing here) (here .loop .inv) (some at-top) (at-top .top .ensures) (c .if2 .taken)
+    going-limit (footing here) (here .loop .inv) (some at-top) (at-top .top .ensures) (at-limit .if2 .taken) (c .give2 .ensures)
 
 -- ---- a step
 
@@ -91,20 +103,25 @@ add-steps c =
     let here = turn (within c .before) in
     omega (arith, within c .if2 .left, start here .fits .limit)
 
+-- ---- it refuses, or the loop goes on
+
 enum-known-outcome : tie.Need-enum-known-outcome Inv-loop μ-loop
 enum-known-outcome c = search needs
 
-refused-requires : tie.Need-refused-requires Inv-loop μ-loop
-refused-requires c κs = search needs
+cast-give-2 : tie.Need-cast-give-2 Inv-loop μ-loop
+cast-give-2 c = search needs
+
+give-requires-3 : tie.Need-give-requires-3 Inv-loop μ-loop
+give-requires-3 c κs = tt
 
 returns-3 : tie.Need-returns-3 Inv-loop μ-loop
 returns-3 c =
-    let at-outcome = c .before .before in
+    let at-outcome = c .before .before .before in
     let at-step = at-outcome .before .before .before in
     let at-top = within at-step .before in
     let here = turn at-top in
     going-refused (footing here) (here .loop .inv) (some at-top) (at-top .top .ensures) (within at-step .if2 .left) _ (at-step .step .result)
-    (at-step .step .ensures) (at-outcome .outcome .given .1) (c .refused .ensures)
+    (at-step .step .ensures) (at-outcome .outcome .given .1) (c .give3 .ensures)
 
 enum-told : tie.Need-enum-told Inv-loop μ-loop
 enum-told c = search needs
@@ -130,12 +147,16 @@ go-spec =
     Inv-loop
     μ-loop
     loop-holds
+    give-requires
     sub-state
     top-requires
+    cast-give
+    give-requires-2
     step-requires
     add-steps
     enum-known-outcome
-    refused-requires
+    cast-give-2
+    give-requires-3
     enum-told
     loop-less
     loop-again

@@ -1,5 +1,4 @@
--- `run` meets its contract: nothing is demanded, the problem's equations wait, and the loop goes on from there.
-use mathlib.Core.Path.{refl}
+-- `run` meets its contract: nothing is demanded, the problem's equations wait under the bindings in the tables, and the loop goes on from there.
 use borrow.Author.Needs.{needs}
 use Rattle.problem.proofs.Counted.{all-equations}
 use Rattle.machine.proofs.Running.{few-nodes, few-variables, began}
@@ -18,26 +17,22 @@ cast-clear-2 c = search needs
 clear-requires : tie.Need-clear-requires
 clear-requires c κs =
     let at-start = c .before .before .before .before .before in
-    (few-nodes (at-start .pre), few-variables (at-start .pre))
+    (few-nodes (at-start .pre .0), few-variables (at-start .pre .0))
 
 start-requires : tie.Need-start-requires
 start-requires c κs =
     let at-start = c .before .before .before .before .before .before .before .before in
-    (at-start .pre .standing, all-equations _ (at-start .pre .counts))
-
-empty-requires : tie.Need-empty-requires
-empty-requires c κs = search needs
+    (at-start .pre .0 .standing, all-equations _ (at-start .pre .0 .counts))
 
 cast-go : tie.Need-cast-go
 cast-go c = search needs
 
 go-requires : tie.Need-go-requires
 go-requires c κs =
-    let at-empty = c .before .before .before .before .before .before .before in
-    let at-stack = at-empty .before in
+    let at-stack = c .before .before .before .before .before .before .before in
     let at-clear = at-stack .before .before .before in
     let at-start = at-clear .before .before .before .before .before .before in
-    began (at-start .pre) _ (at-clear .clear .ensures) (at-stack .start .ensures) (at-empty .empty .ensures) refl
+    began (at-start .pre .0) _ (at-start .pre .1) (at-clear .clear .ensures) (at-stack .start .ensures)
 
 returns : tie.Need-returns
 returns c = search needs
@@ -51,7 +46,6 @@ run-spec =
     cast-clear-2
     clear-requires
     start-requires
-    empty-requires
     cast-go
     go-requires
     returns)

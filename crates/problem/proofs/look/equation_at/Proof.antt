@@ -2,7 +2,7 @@
 use native.Mathlib.Omega.{arith}
 use mathlib.Core.Path.{sym, _∙_}
 use Rattle.problem.specs.Reader.{equation}
-use Rattle.problem.specs.Held.{Stands}
+use Rattle.problem.specs.Held.{ItemStands}
 use Rattle.problem.specs.Look.{equationNow}
 use Rattle.problem.proofs.Located.{equation-at}
 use borrow.Author.Needs.{needs}
@@ -10,7 +10,7 @@ use Rattle.problem.proofs.look.equation_at.Statement.{statement}
 use Rattle.problem.proofs.look.equation_at.Tie as tie
 
 -- The equation's field stands at the offset that was read.
-here : (c : tie.After-wide) → let a = c .before .before .before .args in Stands (a .s .now) (c .wide .result) (equation (equationNow (a .s .now) (a .k)))
+here : (c : tie.After-wide) → let a = c .before .before .before .args in ItemStands (a .s .now) (c .wide .result) (equation (equationNow (a .s .now) (a .k)))
 here c = rw (c .wide .ensures) (c .before .before .before .pre .stands)
 
 mul-wide : tie.Need-mul-wide

@@ -3,7 +3,7 @@ use native.Mathlib.Omega.{arith}
 use mathlib.Core.Path.{sym, ap}
 use Rattle.field.specs.Field.{byte}
 use Rattle.problem.specs.Reader.{node}
-use Rattle.problem.specs.Held.{Stands}
+use Rattle.problem.specs.Held.{ItemStands}
 use Rattle.problem.specs.Look.{formNow, formTold}
 use Rattle.problem.proofs.Located.{located, unit-at, atom-at, abstraction-at, pair-at, application-at, Last, suspension-at}
 use borrow.Author.Needs.{needs}
@@ -11,7 +11,7 @@ use Rattle.problem.proofs.look.form_of.Statement.{statement}
 use Rattle.problem.proofs.look.form_of.Tie as tie
 
 -- The node's field stands at the offset that was read.
-here : (c : tie.After-wide) → let a = c .before .before .before .before .args in Stands (a .s .now) (c .wide .result) (node (formNow (a .s .now) (a .n .0)))
+here : (c : tie.After-wide) → let a = c .before .before .before .before .args in ItemStands (a .s .now) (c .wide .result) (node (formNow (a .s .now) (a .n .0)))
 here c = rw (c .wide .ensures) (c .before .before .before .before .pre .stands)
 
 -- Its tag is none of the first five.

@@ -2,7 +2,7 @@
 use native.Mathlib.Omega.{arith}
 use mathlib.Core.Path.{sym, _∙_}
 use Rattle.problem.specs.Reader.{freshness}
-use Rattle.problem.specs.Held.{Stands}
+use Rattle.problem.specs.Held.{ItemStands}
 use Rattle.problem.specs.Look.{freshnessNow}
 use Rattle.problem.proofs.Located.{freshness-at}
 use borrow.Author.Needs.{needs}
@@ -13,7 +13,7 @@ use Rattle.problem.proofs.look.freshness_at.Tie as tie
 here : (c : tie.After-wide)
     → let a = c .before .before .before .args in
     let d = freshnessNow (a .s .now) (a .k) in
-    Stands (a .s .now) (c .wide .result) (freshness (d .atom) (d .node))
+    ItemStands (a .s .now) (c .wide .result) (freshness (d .atom) (d .node))
 here c = rw (c .wide .ensures) (c .before .before .before .pre .stands)
 
 mul-wide : tie.Need-mul-wide

@@ -8,7 +8,7 @@ use Rattle.permutation.specs.Swaps.{swapsIn}
 use Rattle.field.specs.Field.{word}
 use Rattle.problem.specs.Problem.{Node}
 use Rattle.problem.specs.Reader.{node}
-use Rattle.problem.specs.Held.{Stands}
+use Rattle.problem.specs.Held.{ItemStands}
 use Rattle.problem.specs.Look.{formNow, ownSwaps}
 use Rattle.problem.proofs.Located.{suspended-last, suspension-at}
 use borrow.Author.Needs.{needs}
@@ -24,7 +24,7 @@ here : (c : tie.After-wide) → let a = c .before .before .before .before .args 
 here c =
     let at-start = c .before .before .before .before in
     let a = at-start .args in
-    let w : Stands (a .s .now) (c .wide .result) (node (formNow (a .s .now) (a .n .0))) = rw (c .wide .ensures) (at-start .pre .0 .stands) in
+    let w : ItemStands (a .s .now) (c .wide .result) (node (formNow (a .s .now) (a .n .0))) = rw (c .wide .ensures) (at-start .pre .0 .stands) in
     let h = suspension-at w (suspended-last w (at-start .pre .1)) in
     (h .1, h .2, ap ownSwaps (sym (h .3)))
 

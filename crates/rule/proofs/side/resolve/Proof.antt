@@ -9,7 +9,7 @@ use mathlib.Core.Logic.{_≢_}
 use lib.ListN.{length}
 use Rattle.problem.specs.Held.{problemOf}
 use Rattle.problem.specs.Look.{formNow}
-use Rattle.bindings.specs.Bindings.{tables}
+use Rattle.bindings.specs.Bindings.{bindingTables}
 use Rattle.bindings.specs.declared.Found.{Found}
 use Rattle.rule.specs.Side.{sideAt}
 use Rattle.rule.proofs.Forms.{suspended}
@@ -20,7 +20,7 @@ use Rattle.rule.proofs.side.resolve.Tie as tie
 abbrev Inv-loop : tie.InvT-loop
 Inv-loop s places made values atoms bound count p₀ at₀ left₀ p at left =
     (at .0 < length (problemOf s .nodes))
-    × Kept s atoms (tables made values) (bound .0) count (sideAt atoms p₀ at₀) (sideAt atoms p at) left
+    × Kept s atoms (bindingTables made values) (bound .0) count (sideAt atoms p₀ at₀) (sideAt atoms p at) left
 
 abbrev μ-loop : tie.MeasureT-loop
 μ-loop s places made values atoms bound count p₀ at₀ left₀ p at left = left

@@ -1,4 +1,4 @@
--- `run_read` meets its contract: the run is the definition's, and its tables hold words.
+-- `run_read` meets its contract: the run is the definition's, from the bindings that are there, and its tables hold words.
 use borrow.Author.Needs.{needs}
 use Rattle.problem.proofs.Counted.{all-nodes}
 use Rattle.solver.proofs.Ended.{ends}
@@ -10,14 +10,14 @@ cast-fill c = search needs
 
 fill-requires : tie.Need-fill-requires
 fill-requires c κs =
-    let (standing, counts) = c .before .before .before .pre in
+    let ((standing, counts), founded) = c .before .before .before .pre in
     (standing, all-nodes _ counts)
 
 run-requires : tie.Need-run-requires
 run-requires c κs =
     let at-filled = c .before .before .before .before .before .before .before in
-    let (standing, counts) = at-filled .before .before .before .before .pre in
-    record { standing = standing; counts = counts; filled = at-filled .fill .ensures .sets }
+    let ((standing, counts), founded) = at-filled .before .before .before .before .pre in
+    (record { standing = standing; counts = counts; filled = at-filled .fill .ensures .sets }, founded)
 
 words-requires : tie.Need-words-requires
 words-requires c κs = search needs
@@ -26,8 +26,8 @@ returns : tie.Need-returns
 returns c =
     let at-run = c .before .before in
     let at-filled = at-run .before .before .before .before .before .before .before .before in
-    let (standing, counts) = at-filled .before .before .before .before .pre in
-    ends _ (standing .readable) _ _ _ (c .words .ensures) counts (at-run .run .ensures)
+    let ((standing, counts), founded) = at-filled .before .before .before .before .pre in
+    ends _ (standing .readable) _ founded _ _ (c .words .ensures) counts (at-run .run .ensures)
 
 pub run-read-spec : {M : Type 1} → statement M
 run-read-spec = tie.close (tie.spec cast-fill fill-requires run-requires words-requires returns)

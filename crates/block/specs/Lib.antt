@@ -1,0 +1,2 @@
+-- What one problem of a stream prints: definitions that contracts cite.
+pub mod Block

@@ -1,0 +1,5 @@
+pub mod OneField
+pub mod Holding
+pub mod Onward
+pub mod Opened
+pub mod Given

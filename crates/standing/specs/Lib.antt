@@ -1,0 +1,2 @@
+-- How a stream stands: definitions that contracts cite.
+pub mod Settled
