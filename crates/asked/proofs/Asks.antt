@@ -22,7 +22,8 @@ use Rattle.run.specs.Meaning.{tree}
 use Rattle.run.specs.Run.{Subject, of-variable, of-side, Demand}
 use Rattle.run.specs.Answer.{Asked, subjectTree, askedFresh, askedAssumed, askedRaised}
 use Rattle.run.proofs.States.{DemandFits, groundWith}
-use Rattle.fresh.specs.Pairs.{Pair, of-node, of-variable as for-variable, AskedAs, Asks}
+use Rattle.visit.specs.Pairs.{Pair, of-node, of-variable as for-variable}
+use Rattle.fresh.specs.Resolved.{AskedAs, Asks}
 use Rattle.fresh.specs.Marks.{Demanded, atomOf}
 use Rattle.fresh.proofs.Asked.{asked-node, asked-variable, asked-side, asks-append, asks-same, asks-map}
 use Rattle.demands.specs.Demands.{Sheet, onNodes, onVariables, atomsAt, ofNode, ofVariable, firstRaised, PlaceTells, Raised}

@@ -14,8 +14,10 @@ use Rattle.problem.specs.declared.Counts.{Counts}
 use Rattle.problem.proofs.Counted.{all-atoms, all-variables}
 use Rattle.run.specs.Answer.{Asked, askedFresh, askedAssumed, askedRaised, hasFact}
 use Rattle.bindings.specs.Bindings.{Bindings, bindingsOf}
-use Rattle.fresh.specs.Pairs.{Pair, PairsResolved, Asks}
-use Rattle.fresh.specs.Marks.{Marked, valueAt, Bound}
+use Rattle.visit.specs.Pairs.{Pair}
+use Rattle.visit.specs.Visited.{Marked}
+use Rattle.fresh.specs.Resolved.{PairsResolved, Asks}
+use Rattle.fresh.specs.Marks.{valueAt, Bound}
 use Rattle.fresh.proofs.Tables.{bound-values, resolved-tables}
 use Rattle.asked.specs.Added.{AssumptionsAdded}
 use Rattle.asked.proofs.Asks.{assumptions-asks, assumed-small}

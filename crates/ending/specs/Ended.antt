@@ -13,7 +13,8 @@ use Rattle.run.specs.Run.{Demand, End, finished}
 use Rattle.run.specs.Answer.{Asked, askedFresh, askedRaised, resolvedAll, hasFact, verdictOf, given}
 use Rattle.run.specs.Answer as run
 use Rattle.bindings.specs.Bindings.{Bindings, bindingsOf, Keeps}
-use Rattle.fresh.specs.Pairs.{Pair, Asks}
+use Rattle.visit.specs.Pairs.{Pair}
+use Rattle.fresh.specs.Resolved.{Asks}
 use Rattle.fresh.specs.Meaning.{Meaningful}
 use Rattle.fresh.specs.Marks.{Demanded, atomOf}
 use Rattle.numbers.specs.declared.Given.{Given}

@@ -12,7 +12,8 @@ use Rattle.problem.specs.Problem.{Node}
 use Rattle.run.specs.Meaning.{Side, tree, sideTree}
 use Rattle.run.specs.Answer.{Asked}
 use Rattle.run.proofs.Trees.{Permuting}
-use Rattle.fresh.specs.Pairs.{Pair, of-node, of-variable, AskedAs, Asks}
+use Rattle.visit.specs.Pairs.{Pair, of-node, of-variable}
+use Rattle.fresh.specs.Resolved.{AskedAs, Asks}
 use Rattle.fresh.proofs.Right.{act-back}
 
 module _ (nodes : List Node) where

@@ -12,9 +12,10 @@ use Rattle.sets.proofs.Bits.{member-empty}
 use Rattle.names.proofs.Equal.{by-eq}
 use Rattle.problem.specs.Problem.{Problem}
 use Rattle.run.specs.Meaning.{Side}
-use Rattle.fresh.specs.Pairs.{Pair, of-node, of-variable, PairReached, start}
-use Rattle.fresh.specs.Marks.{Marked, Only, Looked, Visited, Begun}
-use Rattle.fresh.proofs.Growth.{reached-through, looked-more}
+use Rattle.visit.specs.Pairs.{Pair, of-node, of-variable, PairReached, start}
+use Rattle.visit.specs.Visited.{Marked, Only, Looked, Visited}
+use Rattle.visit.proofs.Growth.{reached-through, looked-more}
+use Rattle.fresh.specs.Marks.{Begun}
 
 -- The sets that are demanded, in two columns.
 module _ (p : Problem) (nodes₀ variables₀ : List ℕ) where

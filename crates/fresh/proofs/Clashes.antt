@@ -9,9 +9,11 @@ use Rattle.sets.specs.Bits.{member}
 use Rattle.sets.proofs.Bits.{by-test, member-empty}
 use Rattle.problem.specs.Problem.{Node, unit-form, atom-form, abstraction-form, pair-form, application-form, suspension-form, formAt, Problem}
 use Rattle.run.specs.Meaning.{Side}
-use Rattle.fresh.specs.Pairs.{Pair, Clashing, PairsResolved}
-use Rattle.fresh.specs.Marks.{Marked, Begun, LookedThrough, clashAt, Clashed}
-use Rattle.fresh.proofs.Growth.{reached-through}
+use Rattle.visit.specs.Pairs.{Pair}
+use Rattle.visit.specs.Visited.{Marked}
+use Rattle.visit.proofs.Growth.{reached-through}
+use Rattle.fresh.specs.Resolved.{Clashing, PairsResolved}
+use Rattle.fresh.specs.Marks.{Begun, LookedThrough, clashAt, Clashed}
 
 clash-some : (f : Node) (w : ℕ) → clashAt f w ≡ true → (a : ℕ) × (f ≡ atom-form a) × (member w a ≡ true)
 clash-some unit-form w e = absurd (true≢false (sym e))

@@ -19,13 +19,14 @@ use Rattle.problem.specs.Readable.{Named}
 use Rattle.run.specs.Meaning.{Side}
 use Rattle.bindings.specs.Bindings.{nodeOf, imagesOf}
 use Rattle.demands.specs.Demands.{onVariables}
-use Rattle.fresh.specs.Pairs.{Pair, of-node, of-variable, PairLeads, to-body, to-argument, to-left, to-right, to-variable, to-value}
-use Rattle.fresh.specs.Pairs.{PairReached, start, further, Closed}
-use Rattle.fresh.specs.Marks.{doneIn, Marked, SoFar, Only, added, sentInto, Looked, Visited, LookedThrough}
+use Rattle.visit.specs.Pairs.{Pair, of-node, of-variable, PairLeads, to-body, to-argument, to-left, to-right, to-variable, to-value}
+use Rattle.visit.specs.Pairs.{PairReached, start, further, Closed}
+use Rattle.visit.specs.Visited.{Marked, Only, added, sentInto, Looked, Visited}
+use Rattle.visit.proofs.Sent.{sent-member, member-is-sent}
+use Rattle.visit.proofs.Rows.{row-same, row-cases}
+use Rattle.visit.proofs.Growth.{reached-through, looked-more, difference-left}
+use Rattle.fresh.specs.Marks.{doneIn, SoFar, LookedThrough}
 use Rattle.fresh.specs.Marks.{valued, valueAt, Bound, atomOf, newAt, Passed}
-use Rattle.fresh.proofs.Sent.{sent-member, member-is-sent}
-use Rattle.fresh.proofs.Rows.{row-same, row-cases}
-use Rattle.fresh.proofs.Growth.{reached-through, looked-more, difference-left}
 use Rattle.fresh.proofs.Waiting.{union-more}
 
 -- ---- what the tables of bindings say

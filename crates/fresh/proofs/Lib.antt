@@ -1,8 +1,7 @@
 pub mod Right
 pub mod Asked
-pub mod Sent
-pub mod Rows
-pub mod Growth
+pub mod Images
+pub mod Cleared
 pub mod Beginning
 pub mod Closing
 pub mod Waiting

@@ -28,9 +28,10 @@ use Rattle.run.proofs.Trees.{built, tree-built, Permuting, permuting-inverted, 
 use Rattle.run.proofs.Bindings.{by-value, Settled, Meant}
 use Rattle.run.proofs.Questions.{Each, resolvedAll-holds}
 use Rattle.run.proofs.Facts.{hasFact-true}
+use Rattle.visit.specs.Pairs.{Pair, of-node, of-variable, PairLeads, to-body, to-argument, to-left, to-right, to-variable, to-value}
+use Rattle.visit.specs.Pairs.{PairReached, start, further, Closed}
 use Rattle.fresh.specs.Meaning.{Meaningful}
-use Rattle.fresh.specs.Pairs.{Pair, of-node, of-variable, PairLeads, to-body, to-argument, to-left, to-right, to-variable, to-value}
-use Rattle.fresh.specs.Pairs.{PairReached, start, further, Closed, Clashing, PairsResolved, AskedAs, Asks}
+use Rattle.fresh.specs.Resolved.{Clashing, PairsResolved, AskedAs, Asks}
 
 -- What a run makes has a meaning.
 pub meaningful : {g : Ground} {variables : ℕ} {bs : List Binding} → Meant g variables bs (meaning (g .nodes) bs) → Meaningful g variables bs

@@ -16,9 +16,11 @@ use Rattle.run.specs.Run.{Ground, valueOf}
 use Rattle.run.specs.Answer.{Asked, resolvedAll, hasFact}
 use Rattle.bindings.specs.Bindings.{Bindings, bindingAt, bindingsOf, Keeps}
 use Rattle.bindings.proofs.Bindings.{valueOf-set}
+use Rattle.visit.specs.Pairs.{Pair}
+use Rattle.visit.specs.Visited.{Marked}
 use Rattle.fresh.specs.Meaning.{Meaningful}
-use Rattle.fresh.specs.Pairs.{Pair, PairsResolved, Asks}
-use Rattle.fresh.specs.Marks.{Marked, valued, valueAt, Bound}
+use Rattle.fresh.specs.Resolved.{PairsResolved, Asks}
+use Rattle.fresh.specs.Marks.{valued, valueAt, Bound}
 use Rattle.fresh.proofs.Right.{resolved-right}
 use Rattle.fresh.proofs.Closing.{value-bound}
 

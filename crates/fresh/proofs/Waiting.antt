@@ -11,8 +11,8 @@ use Rattle.sets.proofs.Bits.{member-union, member-union-right, member-differenc
 use Rattle.names.proofs.Equal.{by-eq, by-lt}
 use Rattle.problem.specs.Problem.{Problem}
 use Rattle.demands.specs.Demands.{onVariables}
+use Rattle.visit.proofs.Rows.{row-other}
 use Rattle.fresh.specs.Marks.{doneIn, newAt, NextBetween, Next, Passed}
-use Rattle.fresh.proofs.Rows.{row-other}
 
 -- ---- the next variable
 

@@ -1,19 +1,18 @@
--- The marks in the code's tables: of each node and of each variable the set of atoms that are to be fresh for it. How marks grow, and when they are done.
--- Definitions alone.
+-- The marks in the code's tables: of each node and of each variable the set of atoms that are to be fresh for it, and when they are done. Definitions alone.
 use Prim.Native.Nat.{ℕ, _≤_, _<_, _^_}
 use mathlib.Core.Path.{_≡_}
-use mathlib.Core.Logic.{_⊎_}
 use mathlib.Core.Bool.{Bool, true, false, cond}
 use mathlib.Core.List.{List, []}
 use mathlib.Core.Option.{Option, none, some}
-use lib.ListN.{length, getD, set}
-use Rattle.sets.specs.Bits.{member, union, difference, setOf}
+use lib.ListN.{length, getD}
+use Rattle.sets.specs.Bits.{member, difference}
 use Rattle.permutation.specs.Table.{image, Permutes}
 use Rattle.problem.specs.Problem.{Node, unit-form, atom-form, abstraction-form, pair-form, application-form, suspension-form, formAt, Problem}
 use Rattle.run.specs.Meaning.{Side}
 use Rattle.bindings.specs.Bindings.{nodeOf, imagesOf, NodesThere}
 use Rattle.demands.specs.Demands.{onNodes, onVariables}
-use Rattle.fresh.specs.Pairs.{Pair, of-node, of-variable, PairReached, Closed}
+use Rattle.visit.specs.Pairs.{Pair, of-node, of-variable, PairReached, Closed}
+use Rattle.visit.specs.Visited.{Marked, added, sentInto, Looked, Visited}
 
 -- The lent table of marks: by node the atoms that were seen there, and by variable those that were passed on to its value.
 abbrev pub seenIn : List (List ℕ) → List ℕ
@@ -22,45 +21,12 @@ seenIn marks = getD marks 0 []
 abbrev pub doneIn : List (List ℕ) → List ℕ
 doneIn marks = getD marks 1 []
 
--- The pairs that two columns of sets have, in the rows that the problem uses: all other rows may hold anything.
-abbrev pub Marked : Problem → List ℕ → List ℕ → Pair → Type 0
-Marked p nodes variables (of-node a n) = (n < length (p .nodes)) × (member (getD nodes n 0) a ≡ true)
-Marked p nodes variables (of-variable a X) = (X < p .variables) × (member (getD variables X 0) a ≡ true)
-
 -- What the table of demands asks, as pairs; and what resolving has marked so far: at nodes what was seen there, at variables what is asked of them.
 abbrev pub Demanded : Problem → List (List ℕ) → Pair → Type 0
 Demanded p asked = Marked p (onNodes asked) (onVariables asked)
 
 abbrev pub SoFar : Problem → List (List ℕ) → List (List ℕ) → Pair → Type 0
 SoFar p asked marks = Marked p (seenIn marks) (onVariables asked)
-
--- The atoms of a set, each with one node.
-abbrev pub Only : ℕ → ℕ → Pair → Type 0
-Only atoms n (of-node a m) = (m ≡ n) × (member atoms a ≡ true)
-Only atoms n (of-variable a X) = ⊥
-
--- A column with more atoms in row i.
-unfoldable pub added : List ℕ → ℕ → ℕ → List ℕ
-added t i more = set t i (union (getD t i 0) more)
-
--- The atoms below k that f sends into the set.
-unfoldable pub sentInto : ℕ → (ℕ → ℕ) → ℕ → ℕ
-sentInto k f atoms = setOf (λ a. member atoms (f a)) k
-
--- A pair with a node is looked through within its parts; one with a variable may wait.
-abbrev pub Looked : List Node → (ℕ → Option Side) → (Pair → Type 0) → Pair → Type 0
-Looked nodes value Mark (of-node a n) = Closed nodes value Mark (of-node a n)
-Looked nodes value Mark (of-variable a X) = Unit {0}
-
--- No mark is lost, and each new one is reached from S and looked through.
-pub record MarksGrown (nodes : List Node) (value : ℕ → Option Side) (S Before After : Pair → Type 0) : Type 0 where
-  pub kept : (w : Pair) → Before w → After w
-  pub new : (w : Pair) → After w → Before w ⊎ (PairReached nodes value S w × Looked nodes value After w)
-
--- The atoms were visited at a node: whatever the bindings are, visiting does not look at them.
-pub record Visited (nodes : List Node) (atoms n : ℕ) (Before After : Pair → Type 0) : Type 0 where
-  pub grown : (value : ℕ → Option Side) → MarksGrown nodes value (Only atoms n) Before After
-  pub here : (a : ℕ) → member atoms a ≡ true → After (of-node a n)
 
 -- The demands S were visited: all that is left to look through are pairs with bound variables.
 pub record Begun (nodes : List Node) (S Mark : Pair → Type 0) : Type 0 where

@@ -1,20 +1,22 @@
 // Resolving all demands of a finished run under its bindings, by 003's freshness rules. The trees are not walked: 512 nodes share into 2^511 leaves.
-// Of each node and each variable the set of atoms that are to be fresh for it is kept, all atoms of a set are passed on to a node's parts together,
-// and no pair of atom and node is looked at twice. Whether a demand fails is read off the marks in the end.
+// Of each node and each variable the set of atoms that are to be fresh for it is kept: `visit` goes through the parts of one node, and here each node of
+// which something is demanded is visited, and what comes to a bound variable is passed on to its value. Whether a demand fails is read off the marks in
+// the end.
 
 ghost use mathlib.Core.Path.{_≡_};
 ghost use mathlib.Core.Bool.{true};
 ghost use Prim.Native.Nat.{ℕ, _≤_, _<_, _^_};
 ghost use lib.ListN.{length, getD};
-ghost use Rattle.permutation.specs.Swaps.{Within, swapsIn, act, swapped};
 ghost use Rattle.permutation.specs.Table.{image};
 ghost use Rattle.problem.specs.Held.{problemOf};
-ghost use Rattle.problem.specs.Look.{Standing, NodeStands, Suspended, formNow, ownSwaps};
+ghost use Rattle.problem.specs.Look.{Standing, NodeStands, formNow};
 ghost use Rattle.bindings.specs.Bindings.{nodeOf, imagesOf};
 ghost use Rattle.demands.specs.Demands.{onNodes, onVariables};
-ghost use Rattle.fresh.specs.Pairs.{Pair, PairsResolved};
-ghost use Rattle.fresh.specs.Marks.{seenIn, doneIn, Marked, Demanded, SoFar, added, sentInto, Visited, Begun, LookedThrough, Looked};
-ghost use Rattle.fresh.specs.Marks.{valueAt, Bound, atomOf, newAt, Waits, NextBetween, Next, Passed, clashAt, Clashed};
+ghost use Rattle.visit.specs.Pairs.{Pair};
+ghost use Rattle.visit.specs.Visited.{Marked, sentInto, Looked};
+ghost use Rattle.fresh.specs.Resolved.{PairsResolved};
+ghost use Rattle.fresh.specs.Marks.{seenIn, doneIn, Demanded, SoFar, Begun, LookedThrough, valueAt, Bound, atomOf, newAt, Waits, NextBetween, Next};
+ghost use Rattle.fresh.specs.Marks.{Passed, clashAt, Clashed};
 use bindings::Made;
 use bindings::Values;
 use demands::Asked;
@@ -28,6 +30,9 @@ use problem::Places;
 use problem::look;
 use sets::AtomSet;
 use sets::VariableSet;
+use visit::add_atoms;
+use visit::atoms_at;
+use visit::visit;
 
 // Two columns: by node the atoms that were seen there, and by variable those that were passed on to its value.
 pub type Marks = [Sets; 2];
@@ -39,23 +44,6 @@ const SEEN: usize = 0;
 
 const DONE: usize = 1;
 
-// The set in row i.
-fn atoms_at(rows: &[u32], i: usize) -> AtomSet
-    requires { ⌜ i < length (now rows) ⌝ }
-    ensures { λ r. ⌜ r .0 ≡ getD (now (rows .entry)) i 0 ⌝ }
-{
-    AtomSet(rows[i])
-}
-
-// More atoms in row i.
-fn add_atoms(rows: &mut [u32], i: usize, more: AtomSet)
-    requires { ⌜ i < length (now rows) ⌝ }
-    ensures { λ r. ⌜ now (rows .exit) ≡ added (now (rows .entry)) i (more .0) ⌝ }
-{
-    let r = AtomSet(rows[i]).union(more);
-    rows[i] = r.0;
-}
-
 // No atoms in the first n rows.
 fn clear(rows: &mut [u32], n: usize)
     requires { ⌜ n ≤ length (now rows) ⌝ }
@@ -66,37 +54,6 @@ fn clear(rows: &mut [u32], n: usize)
         rows[i] = 0;
         i += 1;
     }
-}
-
-// Each atom of the set under one swap.
-fn exchange(atoms: AtomSet, a: Atom, b: Atom) -> AtomSet
-    requires { ⌜ (a .0 < 32) × (b .0 < 32) ⌝ }
-    ensures { λ r. ⌜ r .0 ≡ sentInto 32 (swapped (a .0) (b .0)) (atoms .0) ⌝ }
-{
-    if atoms.has(a) {
-        if atoms.has(b) {
-            return atoms;
-        }
-        return atoms.without(a).with(b);
-    }
-    if atoms.has(b) {
-        return atoms.without(b).with(a);
-    }
-    atoms
-}
-
-// The atoms that a suspension's own swaps send into the set: the leftmost swap is undone first.
-fn through_swaps(swaps: &[u8], atoms: AtomSet) -> AtomSet
-    requires { ⌜ Within 32 (swapsIn (now swaps)) ⌝ }
-    ensures { λ r. ⌜ r .0 ≡ sentInto 32 (act (swapsIn (now (swaps .entry)))) (atoms .0) ⌝ }
-{
-    let mut r = atoms;
-    let mut i: usize = 0;
-    while i + 1 < swaps.len() {
-        r = exchange(r, Atom(swaps[i]), Atom(swaps[i + 1]));
-        i += 2;
-    }
-    r
 }
 
 // The atoms that a variable's value sends into the set from outside: its images are read where they lie.
@@ -115,88 +72,6 @@ fn through_images(values: &Values, n: usize, x: Variable, atoms: AtomSet) -> Ato
         i += 1;
     }
     r
-}
-
-// The atoms are asked of a suspension's variable: each as the atom that the suspension's own swaps send to it.
-fn ask(
-    s: &[u8],
-    places: &Places,
-    node: NodeId,
-    x: Variable,
-    atoms: AtomSet,
-    on_variables: &mut [u32],
-)
-    requires { ⌜ NodeStands (now s) (now places) (node .0) × Suspended (formNow (now s) (node .0))
-        × Within 32 (ownSwaps (formNow (now s) (node .0))) × (x .0 < length (now «on_variables»)) ⌝ }
-    ensures { λ r. ⌜ now («on_variables» .exit)
-        ≡ added (now («on_variables» .entry)) (x .0) (sentInto 32 (act (ownSwaps (formNow (now (s .entry)) (node .0)))) (atoms .0)) ⌝ }
-{
-    let swaps = look::swaps_of(s, places, node);
-    let sent = through_swaps(swaps, atoms);
-    add_atoms(on_variables, x.0 as usize, sent);
-}
-
-// "Freshness is judged part by part, a compound term by its parts": marks the atoms at the node and what 003's rules lead to within its parts. Atoms
-// that come to a variable are left there. A node's last part is the loop's next turn, and of a pair it is the higher one: so only the lower one costs a
-// call, which is at least two numbers down, and calls are at most 256 deep. None is made where both parts are one node: the second visit would find
-// nothing new.
-pub fn visit(
-    s: &[u8],
-    places: &Places,
-    atoms: AtomSet,
-    node: NodeId,
-    seen: &mut Sets,
-    on_variables: &mut Sets,
-)
-    requires { ⌜ Standing (now s) (now places) × (node .0 < length (problemOf (now s) .nodes)) ⌝ }
-    ensures { λ r. ⌜ Visited (problemOf (now (s .entry)) .nodes) (atoms .0) (node .0)
-        (Marked (problemOf (now (s .entry))) (now (seen .entry)) (now («on_variables» .entry)))
-        (Marked (problemOf (now (s .entry))) (now (seen .exit)) (now («on_variables» .exit))) ⌝ }
-{
-    let mut more = atoms;
-    let mut at = node;
-    loop {
-        let n = at.0 as usize;
-        let new = more.minus(atoms_at(seen, n));
-        if new.is_empty() {
-            return;
-        }
-        add_atoms(seen, n, new);
-        let form = look::form_of(s, places, at);
-        match form {
-            Form::Unit => return,
-            Form::Atom(a) => return,
-            Form::Abstraction(a, m) => {
-                let rest = new.without(a);
-                more = rest;
-                at = m;
-                continue;
-            }
-            Form::Pair(l, r) => {
-                more = new;
-                at = r;
-                if l.0 == r.0 {
-                    continue;
-                }
-                if l.0 < r.0 {
-                    visit(s, places, new, l, seen, on_variables);
-                    continue;
-                }
-                at = l;
-                visit(s, places, new, r, seen, on_variables);
-                continue;
-            }
-            Form::Application(f, m) => {
-                more = new;
-                at = m;
-                continue;
-            }
-            Form::Suspension(x) => {
-                ask(s, places, at, x, new, on_variables);
-                return;
-            }
-        }
-    }
 }
 
 // The atoms that were asked of a variable and not yet passed on; those that were are a word, as their table's type says. That table is lent as a

@@ -25,7 +25,7 @@ use Rattle.stack.proofs.Stack.{stackOf-none, length-stackOf}
 use Rattle.bindings.specs.Bindings.{Bindings, bindingsOf, Keeps}
 use Rattle.demands.specs.Demands.{sheet, demandsCleared, Raised}
 use Rattle.demands.proofs.Demands.{raised-none}
-use Rattle.rule.specs.Side.{groundIn}
+use Rattle.side.specs.Side.{groundIn}
 use Rattle.perform.specs.declared.State.{State}
 use Rattle.perform.specs.declared.Stepped.{Stepped}
 use Rattle.perform.specs.declared.Outcome.the-variants.{Goes, Refuses}

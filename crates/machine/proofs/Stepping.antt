@@ -31,10 +31,10 @@ use Rattle.bindings.proofs.Bindings.{valueOf-set}
 use Rattle.occurs.specs.Reached.{Rooted}
 use Rattle.occurs.proofs.Bindings.{rooted}
 use Rattle.occurs.proofs.Meaning.{occurs-meaning}
-use Rattle.rule.specs.declared.side.Side.{Side as HeldSide}
+use Rattle.side.specs.declared.Side.{Side as HeldSide}
+use Rattle.side.specs.Side.{groundIn, sideAt, sideHeld, wholeOf, SideResolved}
 use Rattle.rule.specs.declared.Act.{Act}
 use Rattle.rule.specs.declared.Act.the-variants.{Done, Clash, Inside, Protection, Part, Parts, Renamed, Same, BindLeft, BindRight}
-use Rattle.rule.specs.Side.{groundIn, sideAt, sideHeld, wholeOf, SideResolved}
 use Rattle.rule.specs.Rule.{RuleFits, OccursTold, Free, Agrees, Decided}
 use Rattle.rule.proofs.Ruling.{ruled, Names, names}
 use Rattle.perform.specs.declared.State.{State}

@@ -18,7 +18,7 @@ use Rattle.stack.specs.Stack.{Stack, stackOf}
 use Rattle.bindings.specs.Bindings.{Bindings, bindingsOf, Keeps}
 use Rattle.demands.specs.Demands.{Sheet, Raised}
 use Rattle.occurs.specs.Reached.{FilledBelow}
-use Rattle.rule.specs.Side.{groundIn}
+use Rattle.side.specs.Side.{groundIn}
 use Rattle.perform.specs.Performed.{StepTables}
 use Rattle.perform.specs.declared.State.{State}
 use Rattle.machine.specs.Step.{Footing}

@@ -14,7 +14,7 @@ use Rattle.stack.specs.Stack.{Stack, stackOf, equationOf}
 use Rattle.stack.specs.declared.Pending.{Pending}
 use Rattle.occurs.specs.Reached.{FilledBelow}
 use Rattle.bindings.specs.Bindings.{Bindings, bindingsOf, Keeps}
-use Rattle.rule.specs.Side.{groundIn}
+use Rattle.side.specs.Side.{groundIn}
 use Rattle.perform.specs.declared.State.{State}
 
 -- What the run of the problem comes to from its start with the bindings `first`, and the variables of the set w protected.

@@ -21,8 +21,8 @@ use Rattle.stack.specs.declared.Pending.{Pending}
 use Rattle.bindings.specs.Bindings.{Bindings, bindingsOf, Keeps, Added, sideOf, bindingOf}
 use Rattle.bindings.specs.declared.Value.{Value}
 use Rattle.demands.specs.Demands.{Sheet, SideRaised, VariableRaised}
-use Rattle.rule.specs.Side.{sideAt, wholeOf}
-use Rattle.rule.proofs.Resolving.{length-whole}
+use Rattle.side.specs.Side.{sideAt, wholeOf}
+use Rattle.side.proofs.Resolving.{length-whole}
 use Rattle.perform.specs.declared.State.{State}
 use Rattle.perform.specs.declared.Stepped.{Stepped}
 use Rattle.perform.specs.declared.Outcome.the-variants.{Refuses}

@@ -17,11 +17,11 @@ use Rattle.stack.specs.Stack.{Stack, mostWaiting, stackOf}
 use Rattle.bindings.specs.Bindings.{Bindings, bindingsOf, Keeps, Added}
 use Rattle.bindings.specs.declared.Value.{Value}
 use Rattle.demands.specs.Demands.{Sheet, Raised}
-use Rattle.rule.specs.Side.{sideHeld, wholeOf}
+use Rattle.side.specs.Side.{sideHeld, wholeOf}
+use Rattle.side.specs.declared.Side.{Side as HeldSide}
 use Rattle.rule.specs.Rule.{stepOf}
 use Rattle.rule.specs.declared.Act.{Act}
 use Rattle.rule.specs.declared.Act.the-variants.{Done, Clash, Inside, Protection, Part, Parts, Renamed, Same, BindLeft, BindRight}
-use Rattle.rule.specs.declared.side.Side.{Side as HeldSide}
 use Rattle.perform.specs.declared.State.{State}
 use Rattle.perform.specs.declared.Stepped.{Stepped}
 use Rattle.perform.specs.declared.Outcome.the-variants.{Goes, Refuses}

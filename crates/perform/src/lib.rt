@@ -12,7 +12,7 @@ ghost use Rattle.run.specs.Run.{under};
 ghost use Rattle.stack.specs.Stack as pending;
 ghost use Rattle.bindings.specs.Bindings as bindings;
 ghost use Rattle.demands.specs.Demands.{sheet};
-ghost use Rattle.rule.specs.Side.{sideAt, wholeOf};
+ghost use Rattle.side.specs.Side.{sideAt, wholeOf};
 ghost use Rattle.perform.specs.Performed.{tablesOf, goneTo, stepTold, StackGrown, DisagreementRaised, BoundTo, Hangs, Fit, Performed};
 use bindings::Made;
 use bindings::Value;
@@ -27,8 +27,8 @@ use numbers::PROTECTED;
 use permutation::Permutation;
 use problem::Places;
 use rule::Act;
-use rule::side::Side;
 use sets::VariableSet;
+use side::Side;
 use stack::Heads;
 use stack::Images;
 use stack::Pending;
@@ -120,8 +120,8 @@ fn same_variable(
         (wholeOf (now (s .entry)) atoms (table atoms q) (k .0)) (x .0) number
         (sheet (now (asked .entry)) (now (firsts .entry))) (sheet (now (asked .exit)) (now (firsts .exit))) ⌝ }
 {
-    let left = rule::side::whole(s, places, atoms, p, m);
-    let right = rule::side::whole(s, places, atoms, q, k);
+    let left = side::whole(s, places, atoms, p, m);
+    let right = side::whole(s, places, atoms, q, k);
     let d = permutation::disagreement(left, right, atoms);
     demands::raise_variable(asked, firsts, d, x, number);
 }
@@ -171,7 +171,7 @@ fn bind(
         (bindings.bindingTables (now (made .entry)) (now (values .entry))) state
         (bindings.bindingTables (now (made .exit)) (now (values .exit))) z ⌝ }
 {
-    let outer = rule::side::whole(s, places, atoms, p, m);
+    let outer = side::whole(s, places, atoms, p, m);
     let back = permutation::invert(outer, atoms);
     let images = permutation::compose(back, q, atoms);
     let value = Value {

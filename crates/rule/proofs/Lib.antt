@@ -1,4 +1,2 @@
-pub mod Forms
 pub mod Once
-pub mod Resolving
 pub mod Ruling

@@ -6,7 +6,7 @@ use mathlib.Core.List.{List}
 use Rattle.permutation.specs.Table.{Table}
 use Rattle.problem.specs.declared.Form.{Form}
 use Rattle.run.specs.Meaning.{Side}
-use Rattle.rule.specs.declared.side.Side.{Side as HeldSide}
+use Rattle.side.specs.declared.Side.{Side as HeldSide}
 use Rattle.rule.specs.declared.Act.{Act}
 use Rattle.rule.specs.Rule.{
   Compounds,

@@ -38,8 +38,8 @@ use Rattle.run.proofs.Tops.{
   of-different,
   view,
 }
-use Rattle.rule.specs.declared.side.Side.{Side as HeldSide}
-use Rattle.rule.specs.Side.{kind, Compound}
+use Rattle.side.specs.declared.Side.{Side as HeldSide}
+use Rattle.side.specs.Side.{kind, Compound}
 use Rattle.rule.specs.declared.Act.{Act}
 use Rattle.rule.specs.declared.Act.the-variants.{Done, Clash, Inside, Protection, Part, Parts, Renamed, Same, BindLeft, BindRight}
 use Rattle.rule.specs.Rule.{
@@ -62,7 +62,7 @@ use Rattle.rule.specs.Rule.{
   OccursTold,
   Decided,
 }
-use Rattle.rule.proofs.Forms.{tag-kind, not-kind}
+use Rattle.side.proofs.Forms.{tag-kind, not-kind}
 
 -- ---- what the code's tests tell
 

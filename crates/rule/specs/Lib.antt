@@ -1,2 +1,1 @@
-pub mod Side
 pub mod Rule

@@ -17,8 +17,8 @@ use Rattle.sets.specs.Bits.{member}
 use Rattle.run.specs.Meaning.{Side}
 use Rattle.run.specs.Run.{of-variable, of-side, under, clash, inside, protection, Step, refuses, goes-on, done}
 use Rattle.occurs.specs.Reached.{OccursAnswered}
-use Rattle.rule.specs.Side.{sideAt, sideHeld, kind, Compound, isBound}
-use Rattle.rule.specs.declared.side.Side.{Side as HeldSide}
+use Rattle.side.specs.Side.{sideAt, sideHeld, kind, Compound, isBound}
+use Rattle.side.specs.declared.Side.{Side as HeldSide}
 use Rattle.rule.specs.declared.Act.{Act}
 use Rattle.rule.specs.declared.Act.the-variants.{Done, Clash, Inside, Protection, Part, Parts, Renamed, Same, BindLeft, BindRight}
 

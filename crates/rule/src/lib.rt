@@ -7,9 +7,8 @@ ghost use Rattle.permutation.specs.Store.{table};
 ghost use Rattle.permutation.specs.Table.{image};
 ghost use Rattle.sets.specs.Bits.{member};
 ghost use Rattle.bindings.specs.Bindings.{NodesThere};
-ghost use Rattle.rule.specs.Side.{Compound};
+ghost use Rattle.side.specs.Side.{Compound};
 ghost use Rattle.rule.specs.Rule.{atomsAct, abstractionsAct, applicationsAct, Compounds, unlessInside, unlessProtected, eitherAct, OccursTold, Decided};
-use crate::side::Side;
 use bindings::Made;
 use names::Atom;
 use names::NodeId;
@@ -18,8 +17,7 @@ use occurs::NodeVariables;
 use permutation::Permutation;
 use problem::Form;
 use sets::VariableSet;
-
-pub mod side; // side.rt: a side, and what it is once bound variables are replaced
+use side::Side;
 
 // What a step does: it is done, it refuses, it goes on with parts of both sides, it demands, or it binds.
 pub enum Act {

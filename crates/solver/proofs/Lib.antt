@@ -1,4 +1,1 @@
 pub mod Reading
-pub mod Protection
-pub mod Runs
-pub mod Ended

@@ -2,8 +2,6 @@
 ghost use mathlib.Core.Path.{_≡_};
 ghost use Rattle.run.specs.Answer as run;
 ghost use Rattle.numbers.specs.Numbers.{resultOf, judgementGiven};
-use crate::judging::judge_read;
-use crate::solving::solve_read;
 use crate::tables::Asked;
 use crate::tables::Assumed;
 use crate::tables::Firsts;
@@ -16,6 +14,8 @@ use crate::tables::Places;
 use crate::tables::Values;
 use numbers::Given;
 use reader::Reading;
+use verdicts::judging::judge_read;
+use verdicts::solving::solve_read;
 
 // The solver, over lent work tables with any content.
 pub fn solve_with(

@@ -2,7 +2,4 @@
 // and the work tables may hold anything before.
 
 pub mod tables; // tables.rt: the work tables
-pub mod running; // running.rt: the run of a problem that was read
-pub mod solving; // solving.rt: the solver after its reader
-pub mod judging; // judging.rt: the judge after its reader
 pub mod entries; // entries.rt: the entries of both

@@ -4,7 +4,7 @@ use native.Mathlib.Omega.{arith}
 use borrow.Author.Needs.{needs}
 use mathlib.Core.Path.{_≡_, refl, _∙_}
 use lib.ListN.{length, getD, length-set}
-use Rattle.fresh.proofs.Rows.{cleared-more}
+use Rattle.fresh.proofs.Cleared.{cleared-more}
 use Rattle.fresh.proofs.clear.Statement.{statement}
 use Rattle.fresh.proofs.clear.Tie as tie
 

@@ -9,7 +9,7 @@ use Rattle.problem.specs.Problem.{Problem}
 use Rattle.problem.specs.Held.{problemOf}
 use Rattle.problem.specs.Look.{Standing}
 use Rattle.demands.specs.Demands.{onNodes, onVariables}
-use Rattle.fresh.specs.Pairs.{Pair}
+use Rattle.visit.specs.Pairs.{Pair}
 use Rattle.fresh.specs.Marks.{doneIn, SoFar, valueAt, Bound, atomOf, newAt}
 use Rattle.fresh.proofs.Closing.{Closing, closing-start, closing-turn, closing-end}
 use Rattle.fresh.proofs.Waiting.{lack, passed-less}

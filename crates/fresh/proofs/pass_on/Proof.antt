@@ -10,7 +10,8 @@ use Rattle.problem.specs.Problem.{Problem}
 use Rattle.problem.specs.Held.{problemOf}
 use Rattle.bindings.specs.Bindings.{nodeOf, imagesOf}
 use Rattle.demands.specs.Demands.{onVariables}
-use Rattle.fresh.specs.Marks.{doneIn, added, sentInto, newAt}
+use Rattle.visit.specs.Visited.{added, sentInto}
+use Rattle.fresh.specs.Marks.{doneIn, newAt}
 use Rattle.fresh.proofs.Closing.{passed-on}
 use Rattle.fresh.proofs.pass_on.Statement.{statement}
 use Rattle.fresh.proofs.pass_on.Tie as tie

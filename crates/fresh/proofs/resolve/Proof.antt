@@ -11,7 +11,7 @@ use Rattle.problem.specs.Problem.{Problem}
 use Rattle.problem.specs.Held.{problemOf}
 use Rattle.problem.specs.Look.{Standing}
 use Rattle.run.specs.Meaning.{Side}
-use Rattle.fresh.specs.Pairs.{Pair}
+use Rattle.visit.specs.Pairs.{Pair}
 use Rattle.fresh.specs.Marks.{seenIn, doneIn, Demanded, SoFar, Begun, valueAt, Bound, atomOf}
 use Rattle.fresh.proofs.Closing.{reached-small}
 use Rattle.fresh.proofs.Clashes.{resolved-all}

@@ -9,8 +9,8 @@ use Rattle.sets.specs.Bits.{member, inserted}
 use Rattle.sets.specs.declared.AtomSet.{AtomSet}
 use Rattle.permutation.specs.Table.{image}
 use Rattle.bindings.specs.Bindings.{imagesOf}
-use Rattle.fresh.specs.Marks.{sentInto}
-use Rattle.fresh.proofs.Sent.{sent-none, sent-with, sent-without}
+use Rattle.visit.specs.Visited.{sentInto}
+use Rattle.fresh.proofs.Images.{sent-none, sent-with, sent-without}
 use Rattle.fresh.proofs.through_images.Statement.{statement}
 use Rattle.fresh.proofs.through_images.Tie as tie
 

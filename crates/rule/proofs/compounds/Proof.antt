@@ -2,7 +2,7 @@
 use mathlib.Core.Path.{ap}
 use mathlib.Core.List.{[], _∷_}
 use borrow.Author.Needs.{needs}
-use Rattle.rule.specs.Side.{kind}
+use Rattle.side.specs.Side.{kind}
 use Rattle.rule.specs.Rule.{both-units, both-atoms, both-abstractions, both-pairs, both-applications}
 use Rattle.rule.proofs.Ruling.{clashing}
 use Rattle.rule.proofs.compounds.Statement.{statement}

@@ -1,7 +1,7 @@
 -- `decide` meets its contract: by which of the two sides is a suspension.
 use borrow.Author.Needs.{needs}
 use Rattle.rule.specs.Rule.{none-suspended}
-use Rattle.rule.proofs.Forms.{compound}
+use Rattle.side.proofs.Forms.{compound}
 use Rattle.rule.proofs.Ruling.{decided-both, decided-left, decided-right}
 use Rattle.rule.proofs.decide.Statement.{statement}
 use Rattle.rule.proofs.decide.Tie as tie

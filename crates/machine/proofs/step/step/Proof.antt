@@ -9,9 +9,9 @@ use Rattle.names.specs.declared.NodeId.{NodeId}
 use Rattle.permutation.specs.declared.Permutation.{Permutation}
 use Rattle.run.specs.Meaning as meaning
 use Rattle.bindings.specs.Bindings.{Bindings, bindingTables}
-use Rattle.rule.specs.Side.{sideAt, SideResolved}
-use Rattle.rule.specs.declared.side.Side.{Side}
-use Rattle.rule.proofs.Resolving.{resolved-itself}
+use Rattle.side.specs.Side.{sideAt, SideResolved}
+use Rattle.side.specs.declared.Side.{Side}
+use Rattle.side.proofs.Resolving.{resolved-itself}
 use Rattle.machine.proofs.Stepping.{few, left-there, right-there, nodes-there, nodes-small, takes, step-is}
 use Rattle.machine.proofs.step.step.Statement.{statement}
 use Rattle.machine.proofs.step.step.Tie as tie

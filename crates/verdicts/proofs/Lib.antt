@@ -1,0 +1,3 @@
+pub mod Protection
+pub mod Runs
+pub mod Ended

@@ -1,0 +1,3 @@
+pub mod Sent
+pub mod Rows
+pub mod Growth
