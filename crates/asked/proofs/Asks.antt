@@ -14,7 +14,7 @@ use Rattle.nominal.specs.Tree.{variable}
 use Rattle.nominal.specs.Solutions.{Every}
 use Rattle.nominal.proofs.Solutions.{every-at}
 use Rattle.sets.specs.Bits.{member}
-use Rattle.sets.proofs.Bits.{by-test, member-within}
+use Rattle.sets.proofs.Bits.{by-test, or-true, member-within}
 use Rattle.problem.specs.Problem.{Fresh, Assumed, Problem}
 use Rattle.problem.specs.Readable.{Readable}
 use Rattle.problem.specs.Held.{assumes}
@@ -38,10 +38,6 @@ never e = absurd (true≢false (sym e))
 both : (x y : Bool) → (x && y) ≡ true → (x ≡ true) × (y ≡ true)
 both true y e = (refl, e)
 both false y e = never e
-
-or-right : (x : Bool) → (x || true) ≡ true
-or-right true = refl
-or-right false = refl
 
 either : (x y : Bool) → (x || y) ≡ true → (x ≡ true) ⊎ (y ≡ true)
 either true y e = inl refl
@@ -168,7 +164,7 @@ AssumedIn ds w = (d : Assumed) × List·Memᴰ d ds × (w ≡ assumedPair d)
 
 fresh-in : (ds : List Fresh) (d : Fresh) → List·Memᴰ d ds → asksFresh ds (d .atom) (d .node) ≡ true
 fresh-in (e ∷ ds) d (List·Memᴰ·head q) = rw (← q, eq-eqb (d .node) (d .node) refl, eq-eqb (d .atom) (d .atom) refl)
-fresh-in (e ∷ ds) d (List·Memᴰ·tail m) = rw (fresh-in ds d m) (or-right (eqb (e .node) (d .node) && eqb (e .atom) (d .atom)))
+fresh-in (e ∷ ds) d (List·Memᴰ·tail m) = rw (fresh-in ds d m) (or-true (eqb (e .node) (d .node) && eqb (e .atom) (d .atom)))
 
 fresh-found : (ds : List Fresh) (a n : ℕ) → asksFresh ds a n ≡ true → FreshIn ds (of-node a n)
 fresh-found [] a n t = never t
@@ -183,7 +179,7 @@ fresh-found (e ∷ ds) a n t = go (fresh-found ds a n) (either (eqb (e .node) n 
 
 assumed-in : (ds : List Assumed) (d : Assumed) → List·Memᴰ d ds → assumes ds (d .atom) (d .variable) ≡ true
 assumed-in (e ∷ ds) d (List·Memᴰ·head q) = rw (← q, eq-eqb (d .atom) (d .atom) refl, eq-eqb (d .variable) (d .variable) refl)
-assumed-in (e ∷ ds) d (List·Memᴰ·tail m) = rw (assumed-in ds d m) (or-right (eqb (e .atom) (d .atom) && eqb (e .variable) (d .variable)))
+assumed-in (e ∷ ds) d (List·Memᴰ·tail m) = rw (assumed-in ds d m) (or-true (eqb (e .atom) (d .atom) && eqb (e .variable) (d .variable)))
 
 assumed-found : (ds : List Assumed) (a X : ℕ) → assumes ds a X ≡ true → AssumedIn ds (for-variable a X)
 assumed-found [] a X t = never t
@@ -226,7 +222,7 @@ module _ (p : Problem) (r : Readable p) (before after : List (List ℕ)) (f : Fr
 
   fresh-kept : (w : Pair) → Demanded p before w → Demanded p after w
   fresh-kept (for-variable a X) k = rw (f .others) k
-  fresh-kept (of-node a n) (l, m) = (l, f .marks n a ∙ rw m (or-right (asksFresh (p .freshness) a n)))
+  fresh-kept (of-node a n) (l, m) = (l, f .marks n a ∙ rw m (or-true (asksFresh (p .freshness) a n)))
 
   fresh-marked : (w : Pair) → FreshIn (p .freshness) w → Demanded p after w
   fresh-marked w (d, m, e) = rw e (r .named-freshness d m .1, f .marks (d .node) (d .atom) ∙ rw (fresh-in (p .freshness) d m))
@@ -257,7 +253,7 @@ module _ (p : Problem) (r : Readable p) (assumed : List ℕ) (before after : Lis
 
   assumed-kept : (w : Pair) → Demanded p before w → Demanded p after w
   assumed-kept (of-node a n) k = rw (f .others) k
-  assumed-kept (for-variable a X) (l, m) = (l, f .marks X a l ∙ rw m (or-right (member (getD assumed X 0) a)))
+  assumed-kept (for-variable a X) (l, m) = (l, f .marks X a l ∙ rw m (or-true (member (getD assumed X 0) a)))
 
   assumed-marked : (w : Pair) → AssumedIn (p .assumptions) w → Demanded p after w
   assumed-marked w (d, m, e) =
