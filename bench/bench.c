@@ -4,7 +4,8 @@
  *
  *   bench time ROUNDS FILE..     a line for each file: nanoseconds of one solve,
  *                                ours over lent tables, the second program's and
- *                                the ratio of the two; and ours without lent tables
+ *                                the ratio of the two; ours without lent tables;
+ *                                and the same three of one judging
  *   bench ours REPEATS FILE      nothing but our solves, for a profiler
  *   bench second REPEATS FILE    the same of the second program's
  *   bench count FILE             how many problems the file holds
@@ -100,6 +101,23 @@ static void seconds(void)
         kept = (uint64_t)solve(problems[i], lengths[i], second_output, sizeof second_output, &place);
 }
 
+static void our_judge(void)
+{
+    size_t i;
+
+    for (i = 0; i < count; i++)
+        kept = cheesetrestle_judge_lent(problems[i], lengths[i], &tables);
+}
+
+static void second_judge(void)
+{
+    uint64_t place;
+    size_t i;
+
+    for (i = 0; i < count; i++)
+        kept = (uint64_t)judge(problems[i], lengths[i], &place);
+}
+
 /* Stops unless what ours gave is the second program's number and place. */
 static void same(const char *name, size_t i, const char *who, uint64_t given, int number, uint64_t place)
 {
@@ -172,25 +190,27 @@ static unsigned long repeats_for(void (*all)(void))
 
 static void compare(const char *name, int rounds)
 {
-    static void (*const solvers[3])(void) = {ours, seconds, plain};
-    double times[3][MOST_ROUNDS], ratio[MOST_ROUNDS], middle[3];
-    unsigned long repeats[3];
+    static void (*const solvers[5])(void) = {ours, seconds, plain, our_judge, second_judge};
+    double times[5][MOST_ROUNDS], ratio[MOST_ROUNDS], judging[MOST_ROUNDS], middle[5];
+    unsigned long repeats[5];
     const char *base = strrchr(name, '/');
     int i, k;
 
     load(name);
     agree(name);
-    for (k = 0; k < 3; k++)
+    for (k = 0; k < 5; k++)
         repeats[k] = repeats_for(solvers[k]);
     for (i = 0; i < rounds; i++) {
-        for (k = 0; k < 3; k++)
+        for (k = 0; k < 5; k++)
             times[k][i] = timed(solvers[k], repeats[k]) / (double)repeats[k] / (double)count;
         ratio[i] = times[0][i] / times[1][i];
+        judging[i] = times[3][i] / times[4][i];
     }
-    for (k = 0; k < 3; k++)
+    for (k = 0; k < 5; k++)
         middle[k] = median(times[k], rounds);
-    printf("%-28s %5lu %7lu %10.1f %10.1f %7.2f %10.1f\n", base ? base + 1 : name, (unsigned long)count,
-           (unsigned long)(total / count), middle[0], middle[1], median(ratio, rounds), middle[2]);
+    printf("%-28s %5lu %7lu %10.1f %10.1f %7.2f %10.1f %10.1f %10.1f %7.2f\n", base ? base + 1 : name, (unsigned long)count,
+           (unsigned long)(total / count), middle[0], middle[1], median(ratio, rounds), middle[2], middle[3], middle[4],
+           median(judging, rounds));
     fflush(stdout);
 }
 
@@ -203,7 +223,8 @@ int main(int n, char **words)
 
         if (rounds < 1 || rounds > MOST_ROUNDS)
             stop(words[2], "not a number of rounds from 1 to 101");
-        printf("%-28s %5s %7s %10s %10s %7s %10s\n", "stream", "count", "bytes", "ours ns", "second ns", "ratio", "plain ns");
+        printf("%-28s %5s %7s %10s %10s %7s %10s %10s %10s %7s\n", "stream", "count", "bytes", "ours ns", "second ns", "ratio",
+               "plain ns", "judge ns", "second ns", "ratio");
         for (i = 3; i < n; i++)
             compare(words[i], rounds);
         return 0;

@@ -108,13 +108,50 @@ def nested_pairs():
     return p
 
 
-class Published:
-    """A case of known answer, by its name in tests/vectors/base.tsv."""
+def spoiled(seed):
+    """A match with one byte of it changed, or its end cut off: nearly always refused by the reader, at any place."""
+    random_ = random.Random(1000 + seed)
+    data = bytearray(rule_match(seed).bytes)
+    at = random_.randrange(9, len(data))
+    if seed % 4 == 0:
+        return Bytes(bytes(data[:at]))
+    data[at] = (data[at] + random_.randrange(1, 256)) % 256
+    return Bytes(bytes(data))
 
-    def __init__(self, name):
-        with open(os.path.join(TESTS, "vectors", "base.tsv"), encoding="utf-8") as file:
-            columns = next(line.split("\t") for line in file if line.startswith(name + "\t"))
-        self.bytes = bytes.fromhex(columns[1])
+
+def full_input():
+    """65,535 bytes, as long as an input may be: assumptions and protected variables."""
+    p = Problem(32, 64, NO_LIMIT)
+    for i in range(13102):
+        p.assumption(i % 32, i * 7 % 64)
+    for x in range(4):
+        p.protected(x)
+    return p
+
+
+def million_steps():
+    """Two series of 32 variables, each bound to a pair of the one before with itself, against each other: stopped after a million steps."""
+    p = Problem(0, 64, 1000000)
+    names = [p.suspension(x) for x in range(64)]
+    for first in (0, 32):
+        for i in range(first, first + 31):
+            p.equation(p.application(0, p.pair(names[i], names[i])), names[i + 1])
+    p.equation(names[31], names[63])
+    return p
+
+
+class Bytes:
+    """A problem that is given by its bytes."""
+
+    def __init__(self, data):
+        self.bytes = data
+
+
+def published(name):
+    """A case of known answer, by its name in tests/vectors/base.tsv."""
+    with open(os.path.join(TESTS, "vectors", "base.tsv"), encoding="utf-8") as file:
+        columns = next(line.split("\t") for line in file if line.startswith(name + "\t"))
+    return Bytes(bytes.fromhex(columns[1]))
 
 
 FAMILIES = {
@@ -126,7 +163,10 @@ FAMILIES = {
     "swaps-32": [many_swaps(32)],
     "clash-4-billion": [late_clash(512)],
     "nested-200": [nested_pairs()],
-    "section-5.1": [Published("003 section 5.1, 64 variables, L 1048576")],
+    "section-5.1": [published("003 section 5.1, 64 variables, L 1048576")],
+    "malformed": [spoiled(seed) for seed in range(200)],
+    "full-65535": [full_input()],
+    "million-steps": [million_steps()],
 }
 GROWTH = {"chain": chain, "shared": shared_pairs, "clash": late_clash}
 
