@@ -13,11 +13,11 @@ use lib.Seq.{getD-set-same, getD-set-other, take-suc-set, length-take-le, getD-t
 use lib.Dec.{eqb}
 use borrow.Author.Tests.{eq-eqb, ne-eqb}
 use Rattle.permutation.specs.declared.Permutation.{Permutation}
-use Rattle.permutation.specs.Table.{Table, image, tabulate}
+use Rattle.permutation.specs.Table.{Table, image, tabulate, identity}
 use Rattle.permutation.specs.Store.{table, ofTable}
 use Rattle.names.proofs.Equal.{by-eq, by-lt}
-use Rattle.permutation.proofs.Table.{image-out, table-extensional, length-tabulate, image-tabulate}
-use Rattle.permutation.proofs.Store.{length-table, image-table-out}
+use Rattle.permutation.proofs.Table.{image-out, table-extensional, length-tabulate, image-tabulate, image-identity}
+use Rattle.permutation.proofs.Store.{length-table, image-table-out, tabulate-same, identity-tabulate}
 use Rattle.sets.specs.Bits.{member, inserted, among}
 use Rattle.sets.proofs.Bits.{or-true, member-empty, member-inserted, inserted-lt, count-empty, count-le, count-inserted, member-within}
 use Rattle.rows.specs.Rows.{imagesIn, rowKept, rowHeld}
@@ -109,6 +109,11 @@ length-imagesOf A values X = length-tabulate A (image (imagesIn A (getD values X
 pub image-imagesOf : (A : ℕ) (values : List (List ℕ)) (X a : ℕ) → image (imagesOf A values X) a ≡ image (imagesIn A (getD values X [])) a
 unfolding imagesOf
 image-imagesOf A values X = image-row A (getD values X [])
+
+pub imagesOf-plain : (A : ℕ) (values : List (List ℕ)) (X : ℕ) → imagesIn A (getD values X []) ≡ identity A → imagesOf A values X ≡ identity A
+unfolding imagesOf
+imagesOf-plain A values X e =
+    ap (λ (P : Table). tabulate A (image P)) e ∙ tabulate-same A (image (identity A)) (λ a. a) (λ a h. image-identity A a) ∙ sym (identity-tabulate A)
 
 -- ---- the bindings as a list
 

@@ -5,10 +5,10 @@
 // Images are read and written as whole rows, whatever the number of atoms in use. Where one image of a value is wanted, its row is read where it lies.
 
 ghost use mathlib.Core.Path.{_≡_};
-ghost use mathlib.Core.Bool.{false};
-ghost use Prim.Native.Nat.{_≤_, _<_};
+ghost use mathlib.Core.Bool.{true, false};
+ghost use Prim.Native.Nat.{ℕ, _≤_, _<_};
 ghost use lib.ListN.{length, set};
-ghost use Rattle.permutation.specs.Table.{image};
+ghost use Rattle.permutation.specs.Table.{image, identity};
 ghost use Rattle.sets.specs.Bits.{member};
 ghost use Rattle.bindings.specs.Bindings.{bindingTables, variableAt, nodeOf, imagesOf, Keeps, Added, LookedUp};
 use names::Atom;
@@ -107,6 +107,14 @@ pub fn image_of(values: &Values, n: usize, x: Variable, a: Atom) -> Atom
     ensures { λ r. ⌜ r .0 ≡ image (imagesOf n (now (values .entry)) (x .0)) (a .0) ⌝ }
 {
     rows::image(&values[x.0 as usize], n, a)
+}
+
+// Whether a variable's value is its node as it is: its images send every atom to itself.
+pub fn is_plain(values: &Values, x: Variable) -> bool
+    requires { ⌜ x .0 < 64 ⌝ }
+    ensures { λ r. ⌜ (r ≡ true → (n : ℕ) → n ≤ 32 → imagesOf n (now (values .entry)) (x .0) ≡ identity n) ⌝ }
+{
+    rows::is_identity(&values[x.0 as usize])
 }
 
 // The value of a variable.

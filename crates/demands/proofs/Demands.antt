@@ -11,17 +11,17 @@ use lib.ListN.{getD-replicate, List·getD-append}
 use lib.Seq.{getD-set-same, getD-set-other, set-getD, set-set}
 use lib.Dec.{eqb}
 use borrow.Author.Tests.{eq-eqb, ne-eqb}
-use Rattle.permutation.specs.Table.{Table, image, inverted, placeFrom, place}
+use Rattle.permutation.specs.Table.{Table, image, inverted, placeFrom}
+use Rattle.permutation.proofs.Table.{image-inverted-place}
 use Rattle.names.proofs.Equal.{by-eq}
-use Rattle.permutation.proofs.Table.{getD-default, place-first, place-holds, image-inverted-place}
-use Rattle.sets.specs.Bits.{member, union, inserted, removed, lowest, members}
+use Rattle.sets.specs.Bits.{member, union, difference, inserted, removed, lowest, membersFrom, members}
 use Rattle.sets.proofs.Bits.{by-member, member-empty, member-inserted-same, member-inserted-other}
-use Rattle.sets.proofs.Bits.{member-union, member-union-left, member-union-right}
+use Rattle.sets.proofs.Bits.{member-union, member-union-left, member-union-right, member-difference}
 use Rattle.sets.proofs.Bits.{members-empty, members-lowest, in-members-member, member-within}
 use Rattle.run.specs.Run.{Subject, of-variable, of-side, Demand, demands}
 use Rattle.demands.specs.Demands.{Sheet, sheet, rowOf, atomsAt, firstAt, Line, line, lineAt, withLine, RowThere, lineMarked, lineMarkedAll}
 use Rattle.demands.specs.Demands.{marked, markedAll, emptied, demandsCleared, ofNode, ofVariable, firstRaised}
-use Rattle.demands.specs.Demands.{PlaceTells, ToldAt, RowsTell, Raised, SideRaised, VariableRaised}
+use Rattle.demands.specs.Demands.{PlaceTells, ToldAt, RowsTell, Raised, NodeRaised, SideRaised, VariableRaised}
 use Rattle.demands.specs.Demands.{askedOfNode, askedOfVariable, withSet, SetThere, NodeAsked, VariableAsked}
 
 -- ---- a row in hand and in the tables
@@ -295,33 +295,17 @@ placeFrom-lt i a (b ∷ P) h =
 pub inverted-lt : (P : Table) (a : ℕ) → a < length P → image (inverted P) a < length P
 inverted-lt P a h = rw (image-inverted-place P a h) (let m : placeFrom 0 a P < 0 + length P = placeFrom-lt 0 a P (omega arith) in omega arith)
 
--- The first place that holds the atom is the one that the inverse tells, and without one it tells 0.
-pub first-place : (P : Table) (a i : ℕ) → a < length P → i < length P → image P i ≡ a → ((k : ℕ) → k < i → image P k ≢ a) → i ≡ image (inverted P) a
-first-place P a i h l e n =
-    let f : place a P ≤ i = rw e at (place-first P i i l) in
-    let g : getD P (place a P) i ≡ a = rw e at (place-holds P i i l) in
-    by-eq (place a P) i
-    (λ q. sym (image-inverted-place P a h ∙ q))
-    (λ d. absurd (n (place a P) (omega arith) (getD-default P (place a P) (place a P) i (omega arith) ∙ g)))
+-- ---- what the functions that raise leave
 
-placeFrom-none : (i a d : ℕ) (P : Table) → ((k : ℕ) → k < length P → getD P k d ≢ a) → placeFrom i a P ≡ 0
-placeFrom-none i a d [] n = refl
-placeFrom-none i a d (b ∷ P) n = rw (ne-eqb a b (λ q. n 0 (omega arith) (sym q))) (placeFrom-none (suc i) a d P (λ k h. n (suc k) (omega arith)))
-
-pub no-place : (P : Table) (a : ℕ) → a < length P → ((k : ℕ) → k < length P → image P k ≢ a) → 0 ≡ image (inverted P) a
-no-place P a h n = sym (image-inverted-place P a h ∙ placeFrom-none 0 a a P (λ k l e. n k l (getD-default P k k a l ∙ e)))
-
--- ---- what the two functions leave
-
-pub side-raised : (a : ℕ) (P : Table) (n k : ℕ) (t after : Sheet) → a < length P → length P ≤ 32 → n < 512 → RowThere 0 n t
-    → after ≡ marked 0 n k (image (inverted P) a) t → SideRaised a P n k t after
-side-raised a P n k t after h l x there e =
+pub node-raised : (b n k : ℕ) (t after : Sheet) → b < 32 → n < 512 → RowThere 0 n t → after ≡ marked 0 n k b t → NodeRaised b n k t after
+node-raised b n k t after small h there e =
     record {
       content = e;
-      raised = λ nodes variables ds r.
-          let small : image (inverted P) a < 32 = omega (arith, inverted-lt P a h) in
-          rw e (raised-side nodes variables ds t r a P n k there small x);
+      raised = λ a P sent nodes variables ds r. rw (e, sent) (raised-side nodes variables ds t r a P n k there (rw sent at small) h);
     }
+
+pub side-raised : {a : ℕ} {P : Table} {n k : ℕ} {t after : Sheet} → NodeRaised (image (inverted P) a) n k t after → SideRaised a P n k t after
+side-raised {a} {P} r = record { content = r .content; raised = r .raised a P refl }
 
 pub variable-raised : (w X k : ℕ) (t after : Sheet) → w < 2 ^ 32 → RowThere 1 X t → after ≡ markedAll 1 X k (members 32 w) t
     → VariableRaised w X k t after
@@ -392,6 +376,43 @@ pub line-marked-lowest : (i k w : ℕ) (l : Line) → 0 < w → w < 2 ^ 32
     → lineMarkedAll i k (members 32 w) l ≡ lineMarkedAll i k (members 32 (removed w (lowest 32 w))) (lineMarked i k (lowest 32 w) l)
 unfolding lineMarkedAll
 line-marked-lowest i k w l p h = rw (members-lowest 32 w p h)
+
+-- The set in row i has every atom of the set v.
+record Has (i v : ℕ) (l : Line) : Type 0 where
+  there : i < length (l .sets)
+  has : (b : ℕ) → member v b ≡ true → member (getD (l .sets) i 0) b ≡ true
+
+has-marked : (i k b v : ℕ) (l : Line) → Has i v l → Has i v (lineMarked i k b l)
+has-marked i k b v l h =
+    let atoms = getD (l .sets) i 0 in
+    let more = inserted 32 atoms b in
+    by-member atoms b
+    (λ m. rw (line-marked-again i k b l m) h)
+    (λ m. rw (line-marked-new i k b l m)
+    (record {
+      there = rw (length-set (l .sets) i more) (h .there);
+      has = λ a x.
+          let apart : a ≢ b = λ q. true≢false (sym (h .has a x) ∙ ap (λ (c : ℕ). member atoms c) q ∙ m) in
+          rw (getD-set-same (l .sets) i more 0 (h .there), member-inserted-other 32 atoms b a apart) (h .has a x);
+    }))
+
+-- Atoms that are there already change nothing: so they may be left out, which is what the code does.
+marked-without : (i k w v j n : ℕ) (l : Line) → Has i v l
+    → lineMarkedAll i k (membersFrom j n (difference w v)) l ≡ lineMarkedAll i k (membersFrom j n w) l
+unfolding lineMarkedAll
+marked-without i k w v j zero l h = refl
+marked-without i k w v j (suc n) l h =
+    by-member w j
+    (λ m. by-member v j
+    (λ x. rw (member-difference w v j, m, x)
+    (marked-without i k w v (suc j) n l h ∙ ap (lineMarkedAll i k (membersFrom (suc j) n w)) (sym (line-marked-again i k j l (h .has j x)))))
+    (λ x. rw (member-difference w v j, m, x) (marked-without i k w v (suc j) n (lineMarked i k j l) (has-marked i k j v l h))))
+    (λ m. rw (member-difference w v j, m) (marked-without i k w v (suc j) n l h))
+
+pub line-marked-rest : (i k w : ℕ) (l : Line) → i < length (l .sets)
+    → lineMarkedAll i k (members 32 (difference w (getD (l .sets) i 0))) l ≡ lineMarkedAll i k (members 32 w) l
+unfolding members
+line-marked-rest i k w l there = marked-without i k w (getD (l .sets) i 0) 0 32 l (record { there = there; has = λ b m. m })
 
 -- ---- the first sets joined
 

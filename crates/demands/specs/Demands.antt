@@ -129,6 +129,12 @@ pub record Raised (nodes variables : ℕ) (ds : List Demand) (t : Sheet) : Type 
   pub ofNodes : RowsTell (λ n b. firstRaised (ofNode n b) ds) nodes 0 t
   pub ofVariables : RowsTell (λ X b. firstRaised (ofVariable X b) ds) variables 1 t
 
+-- Equation number k asks for atom b of node n: the tables' whole content, and what that is as demands, of whatever atom and images b is the atom.
+pub record NodeRaised (b n k : ℕ) (before after : Sheet) : Type 0 where
+  pub content : after ≡ marked 0 n k b before
+  pub raised : (a : ℕ) (P : Table) → b ≡ image (inverted P) a → (nodes variables : ℕ) (ds : List Demand) → Raised nodes variables ds before
+      → Raised nodes variables (ds ++ demands k ((a, of-side (record { images = P; node = n })) ∷ [])) after
+
 -- Equation number k demands atom a fresh for the side of node n under the images P: the tables' whole content, and what that is as demands.
 pub record SideRaised (a : ℕ) (P : Table) (n k : ℕ) (before after : Sheet) : Type 0 where
   pub content : after ≡ marked 0 n k (image (inverted P) a) before

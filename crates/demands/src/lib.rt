@@ -11,7 +11,7 @@ ghost use Rattle.permutation.specs.Store.{table};
 ghost use Rattle.sets.specs.Bits.{member, members};
 ghost use Rattle.demands.specs.Demands.{line, lineMarked, lineMarkedAll, sheet, rowOf, RowThere, marked, markedAll, emptied, demandsCleared};
 ghost use Rattle.demands.specs.Demands.{askedOfNode, askedOfVariable, withSet, SetThere, NodeAsked, VariableAsked};
-ghost use Rattle.demands.specs.Demands.{SideRaised, VariableRaised};
+ghost use Rattle.demands.specs.Demands.{NodeRaised, SideRaised, VariableRaised};
 use names::Atom;
 use names::MOST_ATOMS;
 use names::MOST_NODES;
@@ -152,7 +152,7 @@ fn mark_all(sets: &mut [u32], numbers: &mut [u8], i: usize, atoms: AtomSet, numb
     ensures { λ r. ⌜ line (now (sets .exit)) (now (numbers .exit))
         ≡ lineMarkedAll i number (members 32 (atoms .0)) (line (now (sets .entry)) (now (numbers .entry))) ⌝ }
 {
-    let mut rest = atoms;
+    let mut rest = atoms.minus(AtomSet(sets[i]));
     while !rest.is_empty() {
         mark(sets, numbers, i, rest.lowest(), number);
         rest = rest.without_lowest();
@@ -220,6 +220,15 @@ pub fn raise_side(
         (sheet (now (asked .entry)) (now (firsts .entry))) (sheet (now (asked .exit)) (now (firsts .exit))) ⌝ }
 {
     let b = preimage(p, atoms, a);
+    raise_node(asked, firsts, b, node, number);
+}
+
+// The same where that atom is known: the one that a side's images send to the atom demanded.
+pub fn raise_node(asked: &mut Asked, firsts: &mut Firsts, b: Atom, node: NodeId, number: u8)
+    requires { ⌜ (b .0 < 32) × (node .0 < 512) ⌝ }
+    ensures { λ r. ⌜ NodeRaised (b .0) (node .0) number
+        (sheet (now (asked .entry)) (now (firsts .entry))) (sheet (now (asked .exit)) (now (firsts .exit))) ⌝ }
+{
     raise(asked, firsts, NODES, node.0 as usize, b, number);
 }
 

@@ -5,13 +5,13 @@ use native.Mathlib.Numerals.{add-one}
 use native.Mathlib.Omega.{arith}
 use mathlib.Core.Path.{_≡_, refl, sym, _∙_, ap, subst}
 use mathlib.Core.Logic.{_≢_}
-use mathlib.Core.Bool.{Bool, true, false, cond}
+use mathlib.Core.Bool.{Bool, true, false, cond, not, _||_, true≢false}
 use mathlib.Core.List.{List, [], _∷_, _++_, map, map-append, map-id, append-assoc, append-nil, List·Memᴰ, List·Memᴰ·head, List·Memᴰ·tail}
-use lib.ListN.{length, getD, take, drop, set, replicate, length-append, length-take, length-drop, List·getD-append, length-map, length-set}
-use lib.ListN.{drop-of-length-le, replicate-append-replicate}
-use lib.Seq.{take-at, set-at, set-append-left, append-snoc, length-take-le, getD-take, getD-set-same, getD-set-other, drop-cons}
+use lib.ListN.{length, getD, take, drop, set, length-append, length-take, length-drop, List·getD-append, length-map, length-set}
+use lib.ListN.{drop-of-length-le}
+use lib.Seq.{take-at, drop-at, set-at, set-append-left, append-snoc, length-take-le, getD-take, getD-set-same, getD-set-other, drop-cons}
 use lib.Dec.{eqb}
-use borrow.Author.Tests.{eq-eqb, ne-eqb}
+use borrow.Author.Tests.{eq-eqb, ne-eqb, eqb-true, not-false}
 use Rattle.permutation.specs.Swaps.{Swaps, swapped, act, Within, swapsIn}
 use Rattle.permutation.specs.Table.{Table, image, from, upto, tabulate, identity, after, placeFrom, inverted, ofSwaps, swappedAfter, kept}
 use Rattle.permutation.specs.Table.{disagreement}
@@ -23,7 +23,7 @@ use Rattle.names.proofs.Equal.{by-eq, by-lt}
 use Rattle.permutation.proofs.Swaps.{act-append, swapped-left, swapped-right, swapped-other}
 use Rattle.permutation.proofs.Table.{image-out, mem-disagreement, table-extensional, getD-default, image-map, image-tabulate, length-from}
 use Rattle.permutation.proofs.Table.{length-tabulate, length-after, length-inverted, length-swappedAfter, length-ofSwaps, image-ofSwaps}
-use Rattle.permutation.proofs.Table.{ofSwaps-none}
+use Rattle.permutation.proofs.Table.{ofSwaps-none, length-identity, image-identity}
 
 -- ---- table and store
 
@@ -42,7 +42,7 @@ image-table-out n p a h = image-out (take n (p .images)) a (rw length-take (omeg
 -- What is put into the store is what is read back.
 pub table-ofTable : (n : ℕ) (P : Table) → length P ≡ n → table n (ofTable P) ≡ P
 unfolding table ofTable padded
-table-ofTable n P l = take-at P (replicate (32 - length P) 0) n l
+table-ofTable n P l = take-at P (drop (length P) (identity 32)) n l
 
 pub table-after : (n : ℕ) (P Q : Table) → length Q ≡ n → table n (ofTable (after P Q)) ≡ after P Q
 table-after n P Q l = table-ofTable n (after P Q) (length-after P Q ∙ l)
@@ -67,18 +67,36 @@ from-suc : (i n : ℕ) → from i (suc n) ≡ from i n ++ ((i + n) ∷ [])
 from-suc i zero = rw add-zero
 from-suc i (suc n) = ap (λ (l : List ℕ). i ∷ l) (from-suc (suc i) n ∙ rw (suc-add, add-suc))
 
+from-append : (i n m : ℕ) → from i (n + m) ≡ from i n ++ from (i + n) m
+from-append i zero m = rw (zero-add m, add-zero i)
+from-append i (suc n) m = rw (suc-add n m) (ap (λ (l : List ℕ). i ∷ l) (from-append (suc i) n m ∙ rw (suc-add i n, add-suc i n)))
+
+-- The identity of however many atoms is one store.
+pub identity-stored : (n : ℕ) → n ≤ 32 → identity 32 ≡ padded (identity n)
+unfolding padded
+identity-stored n h =
+    let e : 32 ≡ n + (32 - n) = omega arith in
+    let rest = from (0 + n) (32 - n) in
+    let cut : identity 32 ≡ identity n ++ rest = ap identity e ∙ from-append 0 n (32 - n) in
+    cut ∙ ap (λ (t : Table). identity n ++ t) (sym (ap (drop (length (identity n))) cut ∙ drop-at (identity n) rest (length (identity n)) refl))
+
 pub tabulate-suc : (n : ℕ) (f : ℕ → ℕ) → tabulate (suc n) f ≡ tabulate n f ++ (f n ∷ [])
 tabulate-suc n f = ap (map f) (from-suc 0 n) ∙ rw (map-append, zero-add)
 
-pub fill-none : (f : ℕ → ℕ) → replicate 32 0 ≡ padded (tabulate 0 f)
+pub fill-none : (f : ℕ → ℕ) → identity 32 ≡ padded (tabulate 0 f)
 unfolding padded
 fill-none f = refl
+
+-- One place more is filled, over whatever was in store.
+pub fill-at : (P e : Table) (i v : ℕ) → length P ≡ i → i < length e → set (P ++ drop i e) i v ≡ (P ++ (v ∷ [])) ++ drop (suc i) e
+fill-at P e i v l h =
+    ap (λ (t : Table). set (P ++ t) i v) (drop-cons e i 0 h) ∙ set-at P (getD e i 0) (drop (suc i) e) v i l ∙ sym (append-snoc P v (drop (suc i) e))
 
 fill-end : (P : Table) (i v : ℕ) → length P ≡ i → i < 32 → set (padded P) i v ≡ padded (P ++ (v ∷ []))
 unfolding padded
 fill-end P i v l h =
-    let r : 32 - i ≡ suc (32 - (i + 1)) = omega arith in
-    rw (length-append P (v ∷ []), l, r, append-snoc) (set-at P 0 (replicate (32 - (i + 1)) 0) v i l)
+    let m : length (P ++ (v ∷ [])) ≡ suc i = length-append P (v ∷ []) ∙ omega arith in
+    rw (l, m) (fill-at P (identity 32) i v l h)
 
 pub fill-more : (i : ℕ) (f : ℕ → ℕ) (v : ℕ) → i < 32 → v ≡ f i → set (padded (tabulate i f)) i v ≡ padded (tabulate (i + 1) f)
 fill-more i f v h e =
@@ -116,6 +134,25 @@ module _ (n : ℕ) (p q : Permutation) (i : ℕ) (h : i < n) (k : n ≤ length (
   pub compose-outside : n ≤ getD (q .images) i 0 → getD (q .images) i 0 ≡ image (table n p) (image (table n q) i)
   compose-outside m = sym (ap (image (table n p)) (image-table n q i h k) ∙ image-table-out n p (getD (q .images) i 0) m)
 
+-- ---- every atom at its own place
+
+-- The first i atoms are their own images.
+abbrev pub Stay : List ℕ → ℕ → Type 0
+Stay images i = (a : ℕ) → a < i → getD images a 0 ≡ a
+
+pub stay-more : (images : List ℕ) (i : ℕ) (other : Bool) → (other ≡ false → Stay images i) → other || not (eqb (getD images i 0) i) ≡ false
+    → Stay images (i + 1)
+stay-more images i true stay e a h = absurd (true≢false e)
+stay-more images i false stay e a h =
+    by-eq a i (λ p. rw p (eqb-true (getD images i 0) i (not-false (eqb (getD images i 0) i) e))) (λ n. stay refl a (omega arith))
+
+pub stay-all : (p : Permutation) → length (p .images) ≡ 32 → Stay (p .images) 32 → (n : ℕ) → n ≤ 32 → table n p ≡ identity n
+stay-all p l stay n few =
+    let long : length (table n p) ≡ n = length-table n p (omega arith) in
+    table-extensional (table n p) (identity n) (long ∙ sym (length-identity n)) λ a h.
+    let k : a < n = rw long at h in
+    image-table n p a k (omega arith) ∙ stay a (omega arith) ∙ sym (image-identity n a)
+
 -- ---- storing at one place
 
 set-tabulate : (n k v : ℕ) (f : ℕ → ℕ) → k < n → set (tabulate n f) k v ≡ tabulate n (λ a. cond (eqb a k) v (f a))
@@ -130,26 +167,18 @@ set-tabulate n k v f h =
 pub store-at : (n k v : ℕ) (f : ℕ → ℕ) → k < n → set (padded (tabulate n f)) k v ≡ padded (tabulate n (λ a. cond (eqb a k) v (f a)))
 unfolding padded
 store-at n k v f h =
-    set-append-left (tabulate n f) (replicate (32 - length (tabulate n f)) 0) k v (rw length-tabulate h)
-    ∙ ap (λ (l : ℕ). set (tabulate n f) k v ++ replicate (32 - l) 0) (length-tabulate n f ∙ sym (length-tabulate n (λ a. cond (eqb a k) v (f a))))
-    ∙ ap (λ (P : Table). P ++ replicate (32 - length (tabulate n (λ a. cond (eqb a k) v (f a)))) 0) (set-tabulate n k v f h)
+    set-append-left (tabulate n f) (drop (length (tabulate n f)) (identity 32)) k v (rw length-tabulate h)
+    ∙ ap (λ (l : ℕ). set (tabulate n f) k v ++ drop l (identity 32)) (length-tabulate n f ∙ sym (length-tabulate n (λ a. cond (eqb a k) v (f a))))
+    ∙ ap (λ (P : Table). P ++ drop (length (tabulate n (λ a. cond (eqb a k) v (f a)))) (identity 32)) (set-tabulate n k v f h)
 
 -- ---- inverting: the loop runs down, so that the first place is stored last
 
 abbrev pub invertedFrom : ℕ → Table → ℕ → List ℕ
 invertedFrom n P i = padded (tabulate n (λ a. placeFrom i a (drop i P)))
 
-zeros : (i n : ℕ) → map {B = ℕ} (λ (a : ℕ). 0) (from i n) ≡ replicate n 0
-zeros i zero = refl
-zeros i (suc n) = ap (λ (l : List ℕ). 0 ∷ l) (zeros (suc i) n)
-
-pub invert-none : (n : ℕ) (P : Table) → length P ≡ n → n ≤ 32 → replicate 32 0 ≡ invertedFrom n P n
-unfolding padded
-invert-none n P l h =
-    let e : drop n P ≡ [] = drop-of-length-le P {i = n} (omega arith) in
-    let m : n + (32 - n) ≡ 32 = omega arith in
-    ap (λ (k : ℕ). replicate k 0) (sym m)
-    ∙ sym (rw (e, length-tabulate, zeros) (replicate-append-replicate n (32 - n) 0))
+pub invert-none : (n : ℕ) (P : Table) → length P ≡ n → padded (tabulate n (λ a. 0)) ≡ invertedFrom n P n
+invert-none n P l =
+    ap (λ (t : Table). padded (tabulate n (λ a. placeFrom n a t))) (sym (drop-of-length-le P {i = n} (omega arith)))
 
 module _ (n : ℕ) (P : Table) (l : length P ≡ n) (i : ℕ) (h : 0 < i) (k : i ≤ n) where
   invert-turn : (a : ℕ) → placeFrom (i - 1) a (drop (i - 1) P) ≡ cond (eqb a (image P (i - 1))) (i - 1) (placeFrom i a (drop i P))
@@ -178,7 +207,7 @@ invert-all n P l = rw l
 
 getD-padded : (P : Table) (a : ℕ) → a < length P → getD (padded P) a 0 ≡ image P a
 unfolding padded
-getD-padded P a h = List·getD-append P (replicate (32 - length P) 0) 0 a h ∙ getD-default P a 0 a h
+getD-padded P a h = List·getD-append P (drop (length P) (identity 32)) 0 a h ∙ getD-default P a 0 a h
 
 exchanged : (n : ℕ) (π : Swaps) (a b : ℕ) → a < n → b < n → set (set (padded (ofSwaps n π)) a (act π b)) b (act π a) ≡ padded (ofSwaps n (π ++ ((a, b) ∷ [])))
 unfolding ofSwaps
@@ -290,10 +319,6 @@ kept-same f g i (suc n) h =
 kept-nothing : (f : ℕ → Bool) (i n : ℕ) → ((a : ℕ) → i ≤ a → a < i + n → f a ≡ false) → kept f (from i n) ≡ []
 kept-nothing f i zero h = refl
 kept-nothing f i (suc n) h = rw (h i (omega arith) (omega arith)) (kept-nothing f (suc i) n (λ a l k. h a (omega arith) (omega arith)))
-
-from-append : (i n m : ℕ) → from i (n + m) ≡ from i n ++ from (i + n) m
-from-append i zero m = rw (zero-add m, add-zero i)
-from-append i (suc n) m = rw (suc-add n m) (ap (λ (l : List ℕ). i ∷ l) (from-append (suc i) n m ∙ rw (suc-add i n, add-suc i n)))
 
 members-kept : (i n w : ℕ) → membersFrom i n w ≡ kept (member w) (from i n)
 members-kept i zero w = refl

@@ -119,6 +119,12 @@ ofSwaps-none n =
     table-extensional (ofSwaps n []) (identity n) (simp (length-ofSwaps, length-identity)) λ a k.
     let m : a < n = rw length-ofSwaps at k in image-ofSwaps n [] a m ∙ sym (image-identity n a)
 
+-- Composing with the identity changes nothing.
+pub identity-after : (n : ℕ) (P : Table) → length P ≡ n → after (identity n) P ≡ P
+identity-after n P l =
+    table-extensional (after (identity n) P) P (length-after (identity n) P) λ a h.
+    image-after (identity n) P a (rw length-identity (sym l)) ∙ image-identity n (image P a)
+
 -- ---- which tables permute
 
 pub permutes-identity : (n : ℕ) → Permutes (identity n)
@@ -322,6 +328,22 @@ pub image-inverted-place : (P : Table) (a : ℕ) → a < length P → image (inv
 unfolding inverted
 image-inverted-place P a h = image-tabulate (length P) (λ b. place b P) a h
 
+-- The first place that holds an atom is the one that the inverse tells, and without one it tells 0.
+pub first-place : (P : Table) (a i : ℕ) → a < length P → i < length P → image P i ≡ a → ((k : ℕ) → k < i → image P k ≢ a) → i ≡ image (inverted P) a
+first-place P a i h l e n =
+    let f : place a P ≤ i = rw e at (place-first P i i l) in
+    let g : getD P (place a P) i ≡ a = rw e at (place-holds P i i l) in
+    by-eq (place a P) i
+    (λ q. sym (image-inverted-place P a h ∙ q))
+    (λ d. absurd (n (place a P) (omega arith) (getD-default P (place a P) (place a P) i (omega arith) ∙ g)))
+
+placeFrom-none : (i a d : ℕ) (P : Table) → ((k : ℕ) → k < length P → getD P k d ≢ a) → placeFrom i a P ≡ 0
+placeFrom-none i a d [] n = refl
+placeFrom-none i a d (b ∷ P) n = rw (ne-eqb a b (λ q. n 0 (omega arith) (sym q))) (placeFrom-none (suc i) a d P (λ k h. n (suc k) (omega arith)))
+
+pub no-place : (P : Table) (a : ℕ) → a < length P → ((k : ℕ) → k < length P → image P k ≢ a) → 0 ≡ image (inverted P) a
+no-place P a h n = sym (image-inverted-place P a h ∙ placeFrom-none 0 a a P (λ k l e. n k l (getD-default P k k a l ∙ e)))
+
 pub inverted-image : (P : Table) (a : ℕ) → Permutes P → image (inverted P) (image P a) ≡ a
 inverted-image P a m =
     by-lt a (length P) (λ h. image-inverted-place P (image P a) (m .inside a h) ∙ place-image P a m h) λ h.
@@ -333,6 +355,11 @@ image-inverted P a m =
     let (b, (l, e)) = onto P m a h in
     let f : image (inverted P) a ≡ b = ap (image (inverted P)) (sym e) ∙ inverted-image P b m in ap (image P) f ∙ e) λ h.
     ap (image P) (image-out (inverted P) a (rw length-inverted h)) ∙ image-out P a h
+
+pub inverted-identity : (n : ℕ) → inverted (identity n) ≡ identity n
+inverted-identity n =
+    table-extensional (inverted (identity n)) (identity n) (length-inverted (identity n)) λ a h.
+    rw image-identity at (inverted-image (identity n) a (permutes-identity n)) ∙ sym (image-identity n a)
 
 pub permutes-inverted : (P : Table) → Permutes P → Permutes (inverted P)
 permutes-inverted P m = record {

@@ -3,9 +3,11 @@
 // an operation follows n and not 32.
 
 ghost use mathlib.Core.Path.{_≡_};
-ghost use Prim.Native.Nat.{_≤_};
+ghost use mathlib.Core.Bool.{true};
+ghost use Prim.Native.Nat.{ℕ, _≤_};
+ghost use lib.ListN.{length};
 ghost use Rattle.permutation.specs.Swaps.{swapped, Within, swapsIn};
-ghost use Rattle.permutation.specs.Table.{image, identity, after, inverted, ofSwaps, swappedAfter, disagreement};
+ghost use Rattle.permutation.specs.Table.{image, tabulate, identity, after, inverted, ofSwaps, swappedAfter, disagreement};
 ghost use Rattle.permutation.specs.Store.{table, ofTable};
 ghost use Rattle.sets.specs.Bits.{ofList};
 use names::Atom;
@@ -16,20 +18,69 @@ pub struct Permutation {
     pub images: [u8; MOST_ATOMS],
 }
 
+// Every atom at its own place.
+pub const EACH: [u8; MOST_ATOMS] = [
+    0,
+    1,
+    2,
+    3,
+    4,
+    5,
+    6,
+    7,
+    8,
+    9,
+    10,
+    11,
+    12,
+    13,
+    14,
+    15,
+    16,
+    17,
+    18,
+    19,
+    20,
+    21,
+    22,
+    23,
+    24,
+    25,
+    26,
+    27,
+    28,
+    29,
+    30,
+    31,
+];
+
 // The permutation that sends each of n atoms to itself.
 pub fn identity(n: usize) -> Permutation
     requires { ⌜ n ≤ 32 ⌝ }
     ensures { λ r. ⌜ r ≡ ofTable (identity n) ⌝ }
 {
-    let mut r = Permutation {
-        images: [0; MOST_ATOMS],
-    };
-    let mut i: usize = 0;
-    while i < n {
-        r.images[i] = i as u8;
-        i += 1;
+    Permutation { images: EACH }
+}
+
+// Whether every atom is sent to itself.
+pub fn is_identity(p: Permutation) -> bool
+    ensures { λ r. ⌜ (r ≡ true → (n : ℕ) → n ≤ 32 → table n p ≡ identity n) ⌝ }
+{
+    each_stays(&p.images)
+}
+
+// The same of images wherever they lie, a row of a lent table too. All 32 places are looked at with no test between them, so that many are taken at once.
+pub fn each_stays(images: &[u8]) -> bool
+    requires { ⌜ length (now images) ≡ 32 ⌝ }
+    ensures { λ r. ⌜ (r ≡ true → (n : ℕ) → n ≤ 32 → table n (record { images = now (images .entry) }) ≡ identity n) ⌝ }
+{
+    let mut other = false;
+    let mut a: usize = 0;
+    while a < MOST_ATOMS {
+        other = other | (images[a] != a as u8);
+        a += 1;
     }
-    r
+    !other
 }
 
 // The image of an atom: itself, if it is none of the n.
@@ -49,9 +100,7 @@ pub fn compose(p: Permutation, q: Permutation, n: usize) -> Permutation
     requires { ⌜ n ≤ 32 ⌝ }
     ensures { λ r. ⌜ r ≡ ofTable (after (table n p) (table n q)) ⌝ }
 {
-    let mut r = Permutation {
-        images: [0; MOST_ATOMS],
-    };
+    let mut r = Permutation { images: EACH };
     let mut i: usize = 0;
     while i < n {
         let b = q.images[i];
@@ -66,14 +115,26 @@ pub fn compose(p: Permutation, q: Permutation, n: usize) -> Permutation
     r
 }
 
+// Each of n atoms at 0: what an inverse has of them before any place is looked at.
+fn unplaced(n: usize) -> Permutation
+    requires { ⌜ n ≤ 32 ⌝ }
+    ensures { λ r. ⌜ r ≡ ofTable (tabulate n (λ a. 0)) ⌝ }
+{
+    let mut r = Permutation { images: EACH };
+    let mut i: usize = 0;
+    while i < n {
+        r.images[i] = 0;
+        i += 1;
+    }
+    r
+}
+
 // The inverse. An atom that is no image gets 0; of several places the first counts, so the loop runs down.
 pub fn invert(p: Permutation, n: usize) -> Permutation
     requires { ⌜ n ≤ 32 ⌝ }
     ensures { λ r. ⌜ r ≡ ofTable (inverted (table n p)) ⌝ }
 {
-    let mut r = Permutation {
-        images: [0; MOST_ATOMS],
-    };
+    let mut r = unplaced(n);
     let mut i = n;
     while 0 < i {
         i -= 1;
@@ -106,9 +167,7 @@ pub fn swap_after(a: Atom, b: Atom, p: Permutation, n: usize) -> Permutation
     requires { ⌜ n ≤ 32 ⌝ }
     ensures { λ r. ⌜ r ≡ ofTable (swappedAfter (a .0) (b .0) (table n p)) ⌝ }
 {
-    let mut r = Permutation {
-        images: [0; MOST_ATOMS],
-    };
+    let mut r = Permutation { images: EACH };
     let mut i: usize = 0;
     while i < n {
         let k = swap_atom(a, b, Atom(p.images[i]));

@@ -2,13 +2,16 @@
 // ones that know how a permutation is stored.
 
 ghost use mathlib.Core.Path.{_≡_};
-ghost use Prim.Native.Nat.{_≤_, _<_};
+ghost use Prim.Native.Nat.{ℕ, _≤_, _<_};
 ghost use lib.ListN.{length, getD};
-ghost use Rattle.permutation.specs.Table.{image};
-ghost use Rattle.rows.specs.Rows.{rowKept, rowHeld, imagesIn};
+ghost use mathlib.Core.Bool.{true};
+ghost use Rattle.permutation.specs.Table.{image, identity, inverted, disagreement};
+ghost use Rattle.sets.specs.Bits.{ofList};
+ghost use Rattle.rows.specs.Rows.{rowKept, rowHeld, imagesIn, RowSwapped};
 use names::Atom;
 use names::MOST_ATOMS;
 use permutation::Permutation;
+use sets::AtomSet;
 
 pub type Row = [u8; MOST_ATOMS];
 
@@ -46,4 +49,77 @@ pub fn image(row: &Row, n: usize, a: Atom) -> Atom
         return Atom(byte(row, i));
     }
     a
+}
+
+// The functions below lend their rows on in the same way: what loops over a row knows its length.
+
+// Whether a row sends every atom to itself.
+pub fn is_identity(row: &Row) -> bool
+    ensures { λ r. ⌜ (r ≡ true → (n : ℕ) → n ≤ 32 → imagesIn n (now (row .entry)) ≡ identity n) ⌝ }
+{
+    permutation::each_stays(row)
+}
+
+// The atom whose image is a: of several the first counts, and it is 0 if there is none, as in the inverse.
+pub fn preimage(row: &Row, n: usize, a: Atom) -> Atom
+    requires { ⌜ (n ≤ 32) × (a .0 < n) ⌝ }
+    ensures { λ r. ⌜ r .0 ≡ image (inverted (imagesIn n (now (row .entry)))) (a .0) ⌝ }
+{
+    first_place(row, n, a)
+}
+
+fn first_place(row: &[u8], n: usize, a: Atom) -> Atom
+    requires { ⌜ (n ≤ 32) × (n ≤ length (now row)) × (a .0 < n) ⌝ }
+    ensures { λ r. ⌜ r .0 ≡ image (inverted (imagesIn n (now (row .entry)))) (a .0) ⌝ }
+{
+    let mut i: usize = 0;
+    while i < n {
+        if row[i] == a.0 {
+            return Atom(i as u8);
+        }
+        i += 1;
+    }
+    Atom(0)
+}
+
+// First what the row does, then the swap of a and b: the row is changed where it lies, all 32 places with no test between them.
+pub fn swap_after(row: &mut Row, a: Atom, b: Atom)
+    ensures { λ r. ⌜ RowSwapped (a .0) (b .0) (now (row .entry)) (now (row .exit)) ⌝ }
+{
+    swap_all(row, a, b);
+}
+
+fn swap_all(row: &mut [u8], a: Atom, b: Atom)
+    requires { ⌜ length (now row) ≡ 32 ⌝ }
+    ensures { λ r. ⌜ RowSwapped (a .0) (b .0) (now (row .entry)) (now (row .exit)) ⌝ }
+{
+    let mut i: usize = 0;
+    while i < MOST_ATOMS {
+        let k = permutation::swap_atom(a, b, Atom(row[i]));
+        row[i] = k.0;
+        i += 1;
+    }
+}
+
+// The disagreement set of two rows.
+pub fn disagreement(row: &Row, other: &Row, n: usize) -> AtomSet
+    requires { ⌜ n ≤ 32 ⌝ }
+    ensures { λ r. ⌜ r .0 ≡ ofList 32 (disagreement (imagesIn n (now (row .entry))) (imagesIn n (now (other .entry)))) ⌝ }
+{
+    disagreeing(row, other, n)
+}
+
+fn disagreeing(row: &[u8], other: &[u8], n: usize) -> AtomSet
+    requires { ⌜ (n ≤ 32) × (n ≤ length (now row)) × (n ≤ length (now other)) ⌝ }
+    ensures { λ r. ⌜ r .0 ≡ ofList 32 (disagreement (imagesIn n (now (row .entry))) (imagesIn n (now (other .entry)))) ⌝ }
+{
+    let mut r = AtomSet::empty();
+    let mut i: usize = 0;
+    while i < n {
+        if row[i] != other[i] {
+            r = r.with(Atom(i as u8));
+        }
+        i += 1;
+    }
+    r
 }

@@ -37,6 +37,13 @@ unfolding stackOf
 length-stackOf A t zero = refl
 length-stackOf A t (suc n) = ap suc (length-stackOf A t n)
 
+-- The equations that wait are read off the places below alone.
+pub same-below : (A : ℕ) (t u : Stack) (k : ℕ) → ((i : ℕ) → i < k → pendingAt t i ≡ pendingAt u i) → stackOf A t k ≡ stackOf A u k
+unfolding stackOf
+same-below A t u zero e = refl
+same-below A t u (suc k) e =
+    ap₂ (λ (x : Pending) (l : List Equation). equationOf A x ∷ l) (e k (omega arith)) (same-below A t u k (λ i h. e i (omega arith)))
+
 -- Both tables have a place n.
 pub record Room (n : ℕ) (t : Stack) : Type 0 where
   pub heads : n < length (t .heads)
@@ -57,18 +64,15 @@ module _ (n : ℕ) (e : Pending) (t : Stack) where
   unfolding pendingAt withEquation
   at-other i o = rw (getD-set-other (t .heads) n i (headOf e) [] o, getD-set-other (t .images) n i (rowsOf e) [] o)
 
-  below : (A k : ℕ) → k ≤ n → stackOf A (withEquation n e t) k ≡ stackOf A t k
-  unfolding stackOf
-  below A zero h = refl
-  below A (suc k) h = ap₂ (λ (x : Pending) (l : List Equation). equationOf A x ∷ l) (at-other k (λ p. omega arith)) (below A k (omega arith))
-
   -- What the code of `push` leaves.
   pub pushed : Room n t → e .number < 256 → (after : Stack) → after ≡ withEquation n e t → Pushed t n e after
   unfolding stackOf
   pushed r small after c =
       record {
         content = c;
-        stack = λ A h. rw (c, add-one) (ap₂ (λ (x : Equation) (l : List Equation). x ∷ l) (at-new r A small) (below A n (omega arith)));
+        stack = λ A h.
+            rw (c, add-one)
+            (ap₂ (λ (x : Equation) (l : List Equation). x ∷ l) (at-new r A small) (same-below A _ t n (λ i k. at-other i (λ p. omega arith))));
       }
 
 -- What the code of `top` makes.

@@ -1,4 +1,5 @@
--- `mark_all` meets its contract: with the atoms marked so far, marking the rest is marking all. The measure is how many are left.
+-- `mark_all` meets its contract: with the atoms marked so far, marking the rest is marking all, and so it is at the start with those that were there
+-- already. The measure is how many are left.
 use Prim.Native.Nat.{ℕ, _^_, _<_}
 use native.Mathlib.Omega.{arith}
 use mathlib.Core.Path.{sym, ap, _∙_, _≡_}
@@ -7,7 +8,7 @@ use borrow.Author.Tests.{not-true, not-false, eqb-true}
 use Rattle.sets.specs.Bits.{removed, lowest, members, count}
 use Rattle.sets.proofs.Bits.{not-empty, lowest-lt, lowest-member, count-removed-lt}
 use Rattle.demands.specs.Demands.{Line, line, lineMarked, lineMarkedAll}
-use Rattle.demands.proofs.Demands.{line-marked-none, line-marked-lowest}
+use Rattle.demands.proofs.Demands.{line-marked-none, line-marked-lowest, line-marked-rest}
 use borrow.Author.Needs.{needs}
 use Rattle.demands.proofs.mark_all.Statement.{statement}
 use Rattle.demands.proofs.mark_all.Tie as tie
@@ -26,7 +27,7 @@ abbrev μ-loop : tie.MeasureT-loop
 
 module _ (c : tie.Then1 Inv-loop μ-loop) where
   abbrev start : tie.Start Inv-loop μ-loop
-  start = c .before .before .before .before .before
+  start = c .before .before .before .before .before .before .before
 
   abbrev row : Line
   row = line (c .before .before .loop .sets) (c .before .before .loop .numbers)
@@ -73,6 +74,15 @@ module _ (c : tie.After-without-lowest Inv-loop μ-loop) where
       ∙ ap (lineMarkedAll i k (members 32 (removed (left turn) (lowest 32 (left turn))))) row-marked
       ∙ sym (line-marked-lowest i k (left turn) (row turn) (some-left turn) (left-small turn))
 
+mul-t7 : tie.Need-mul-t7 Inv-loop μ-loop
+mul-t7 c = search needs
+
+slice-read-t9 : tie.Need-slice-read-t9 Inv-loop μ-loop
+slice-read-t9 c = search needs
+
+minus-requires : tie.Need-minus-requires Inv-loop μ-loop
+minus-requires c κs = search needs
+
 loop-holds : tie.Need-loop-holds Inv-loop μ-loop
 loop-holds c = search needs
 
@@ -105,12 +115,17 @@ same-length-2 c = search needs
 returns : tie.Need-returns Inv-loop μ-loop
 returns c =
     let state = c .before .before .loop in
-    let a = c .before .before .before .before .before .args in
+    let rest-made = c .before .before .before in
+    let at-start = rest-made .before .before .before .before in
+    let a = at-start .args in
+    let row-before = line (a .sets .now) (a .numbers .now) in
     let row = line (state .sets) (state .numbers) in
     let none-left : state .rest .0 ≡ 0 = eqb-true _ _ (sym (c .before .is-empty .ensures) ∙ not-false _ (c .if1 .left)) in
     sym (line-marked-none (a .i) (a .number) row)
     ∙ ap (λ (w : ℕ). lineMarkedAll (a .i) (a .number) (members 32 w) row) (sym none-left)
     ∙ state .inv .3
+    ∙ ap (λ (w : ℕ). lineMarkedAll (a .i) (a .number) (members 32 w) row-before) (rest-made .minus .ensures)
+    ∙ line-marked-rest (a .i) (a .number) (a .atoms .0) row-before (at-start .pre .0)
 
 pub mark-all-spec : {M : Type 1} → statement M
 mark-all-spec =
@@ -118,6 +133,9 @@ mark-all-spec =
     (tie.spec
     Inv-loop
     μ-loop
+    mul-t7
+    slice-read-t9
+    minus-requires
     loop-holds
     is-empty-requires
     lowest-requires

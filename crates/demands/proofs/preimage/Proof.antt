@@ -8,7 +8,7 @@ use Rattle.permutation.specs.Table.{Table, image}
 use Rattle.permutation.specs.Store.{table}
 use Rattle.names.proofs.Equal.{by-eq}
 use Rattle.permutation.proofs.Store.{length-table}
-use Rattle.demands.proofs.Demands.{first-place, no-place}
+use Rattle.permutation.proofs.Table.{first-place, no-place}
 use borrow.Author.Needs.{needs}
 use Rattle.demands.proofs.preimage.Statement.{statement}
 use Rattle.demands.proofs.preimage.Tie as tie

@@ -1,12 +1,11 @@
 -- `raise_side` meets its contract: the atom that the side's images send to a, as the inverse has it.
-use Prim.Native.Nat.{ℕ, _≤_, _<_}
+use Prim.Native.Nat.{_≤_, _<_}
 use native.Mathlib.Omega.{arith}
-use mathlib.Core.Path.{_≡_, ap, _∙_}
+use mathlib.Core.Path.{_≡_}
 use lib.ListN.{length}
 use Rattle.permutation.specs.Table.{Table}
 use Rattle.permutation.specs.Store.{table}
 use Rattle.permutation.proofs.Store.{length-table}
-use Rattle.demands.specs.Demands.{sheet, marked}
 use Rattle.demands.proofs.Demands.{inverted-lt, side-raised}
 use borrow.Author.Needs.{needs}
 use Rattle.demands.proofs.raise_side.Statement.{statement}
@@ -37,22 +36,11 @@ sent-small c =
 preimage-requires : tie.Need-preimage-requires
 preimage-requires c κs = search needs
 
-cast-raise : tie.Need-cast-raise
-cast-raise c = search needs
-
-raise-requires : tie.Need-raise-requires
-raise-requires c κs = (search needs, search needs, search needs, sent-small (c .before .before .before))
+raise-node-requires : tie.Need-raise-node-requires
+raise-node-requires c κs = (sent-small (c .before .before), search needs)
 
 returns : tie.Need-returns
-returns c =
-    let sent = c .before .before .before .before in
-    let start = sent .before in
-    let a = start .args in
-    let before = sheet (a .asked .now) (a .firsts .now) in
-    let there = c .raise .ensures .0 in
-    let content = c .raise .ensures .1 ∙ ap (λ (b : ℕ). marked 0 (a .node .0) (a .number) b before) (sent .preimage .ensures) in
-    side-raised (a .a .0) (images start) (a .node .0) (a .number) before _ (within start) (few start) (start .pre .2) there content
+returns c = side-raised (rw (c .before .before .before .preimage .ensures) at (c .raise-node .ensures))
 
 pub raise-side-spec : {M : Type 1} → statement M
-raise-side-spec =
-    tie.close (tie.spec preimage-requires cast-raise raise-requires returns)
+raise-side-spec = tie.close (tie.spec preimage-requires raise-node-requires returns)

@@ -5,7 +5,7 @@ use mathlib.Core.Path.{_≡_, _∙_}
 use lib.ListN.{length, getD}
 use borrow.Author.Needs.{needs}
 use Rattle.permutation.specs.Table.{image, inverted}
-use Rattle.permutation.specs.Store.{table}
+use Rattle.permutation.specs.Store.{table, ofTable}
 use Rattle.permutation.proofs.Store.{stored, length-table, image-table, invertedFrom, invert-none, invert-store, invert-skip, invert-all}
 use Rattle.permutation.proofs.invert.Statement.{statement}
 use Rattle.permutation.proofs.invert.Tie as tie
@@ -16,10 +16,17 @@ Inv-loop n p r₀ i₀ r i = (i ≤ n) × (r .images ≡ invertedFrom n (table n
 abbrev μ-loop : tie.MeasureT-loop
 μ-loop n p r₀ i₀ r i = i
 
+unplaced-requires : tie.Need-unplaced-requires Inv-loop μ-loop
+unplaced-requires c κs = search needs
+
 loop-holds : tie.Need-loop-holds Inv-loop μ-loop
+unfolding ofTable
 loop-holds c =
-    let l : length (c .args .t1 .images) ≡ 32 = search needs in
-    (search needs, invert-none (c .args .n) (table (c .args .n) (c .args .t1)) (length-table (c .args .n) (c .args .t1) (omega arith)) (search needs))
+    let start = c .before in
+    let n = start .args .n in
+    let p = start .args .t1 in
+    let l : length (p .images) ≡ 32 = search needs in
+    (search needs, rw (c .unplaced .ensures) (invert-none n (table n p) (length-table n p (omega arith))))
 
 sub-i : tie.Need-sub-i Inv-loop μ-loop
 sub-i c = search needs
@@ -42,7 +49,7 @@ loop-less c = search needs
 loop-again : tie.Need-loop-again Inv-loop μ-loop
 loop-again c =
     let in-loop = c .before .before .before in
-    let at-start = in-loop .before in
+    let at-start = in-loop .before .before in
     let n = at-start .args .n in
     let p = at-start .args .t1 in
     let i = in-loop .loop .i in
@@ -59,7 +66,7 @@ loop-less-2 c = search needs
 loop-again-2 : tie.Need-loop-again-2 Inv-loop μ-loop
 loop-again-2 c =
     let in-loop = c .before .before .before in
-    let at-start = in-loop .before in
+    let at-start = in-loop .before .before in
     let n = at-start .args .n in
     let p = at-start .args .t1 in
     let i = in-loop .loop .i in
@@ -72,7 +79,7 @@ loop-again-2 c =
 returns : tie.Need-returns Inv-loop μ-loop
 returns c =
     let in-loop = c .before in
-    let at-start = in-loop .before in
+    let at-start = in-loop .before .before in
     let e : in-loop .loop .i ≡ 0 = omega arith in
     let l : length (at-start .args .t1 .images) ≡ 32 = search needs in
     stored (in-loop .loop .r) (inverted (table (at-start .args .n) (at-start .args .t1)))
@@ -86,6 +93,7 @@ invert-spec =
     (tie.spec
     Inv-loop
     μ-loop
+    unplaced-requires
     loop-holds
     sub-i
     element-copy-out-k
