@@ -51,17 +51,17 @@ uint32_t cheesetrestle_version(void);
  * and cheesetrestle_judge, whose tables are on it, and the four over lent tables.
  * It was measured, on stacks that had been filled before and on the deepest
  * problems that can be built; README.md has what each entry took. One function of
- * the archive calls itself, at most 256 deep and 96 bytes each time; nothing else
+ * the archive calls itself, at most 256 deep and 80 bytes each time; nothing else
  * grows with the problem. What a signal handler takes comes on top. */
 #define CHEESETRESTLE_STACK 114688
-#define CHEESETRESTLE_STACK_LENT 28672
+#define CHEESETRESTLE_STACK_LENT 24576
 
-/* What the solver and the judge work in: the input's places and assumptions, the
- * variables in each node, the equations that wait, the bindings made, the demands,
- * and the marks of resolving them. The content does not matter, neither before nor
- * after a call; one call at a time may use it. */
+/* What the solver and the judge work in: the first bytes of the input's fields, its
+ * assumptions, the variables in each node, the equations that wait, the bindings
+ * made, the demands, and the marks of resolving them. The content does not matter,
+ * neither before nor after a call; one call at a time may use it. */
 struct cheesetrestle_tables {
-    uint16_t places[3][512];
+    uint64_t places[640];
     uint32_t assumed[64];
     uint64_t node_variables[512];
     uint16_t heads[576][3];
@@ -77,7 +77,7 @@ struct cheesetrestle_tables {
  * does not compile. */
 #define CHEESETRESTLE_TAKES(table, bytes) \
     typedef char cheesetrestle_takes_##table[sizeof ((struct cheesetrestle_tables *)0)->table == (bytes) ? 1 : -1]
-CHEESETRESTLE_TAKES(places, 3072);
+CHEESETRESTLE_TAKES(places, 5120);
 CHEESETRESTLE_TAKES(assumed, 256);
 CHEESETRESTLE_TAKES(node_variables, 4096);
 CHEESETRESTLE_TAKES(heads, 3456);
@@ -88,7 +88,7 @@ CHEESETRESTLE_TAKES(asked, 4096);
 CHEESETRESTLE_TAKES(firsts, 18432);
 CHEESETRESTLE_TAKES(marks, 4096);
 #undef CHEESETRESTLE_TAKES
-typedef char cheesetrestle_tables_take[sizeof(struct cheesetrestle_tables) == 76800 ? 1 : -1];
+typedef char cheesetrestle_tables_take[sizeof(struct cheesetrestle_tables) == 78848 ? 1 : -1];
 
 /* What every entry gives back is one word: one of the numbers of
  * cheesetrestle_numbers.h in its high half, a place in its low half. */
@@ -109,14 +109,14 @@ uint64_t cheesetrestle_judge(const uint8_t *input, size_t input_length);
  * functions below take them as one struct. */
 uint64_t cheesetrestle_solve_with(
     const uint8_t *input, size_t input_length, uint8_t *output, size_t output_length,
-    uint16_t places[3][512], uint32_t assumed[64], uint64_t node_variables[512],
+    uint64_t places[640], uint32_t assumed[64], uint64_t node_variables[512],
     uint16_t heads[576][3], uint8_t images[576][2][32], uint16_t made[3][64],
     uint8_t values[64][32], uint32_t asked[2][512], uint8_t firsts[576][32],
     uint32_t marks[2][512]);
 
 uint64_t cheesetrestle_judge_with(
     const uint8_t *input, size_t input_length,
-    uint16_t places[3][512], uint32_t assumed[64], uint64_t node_variables[512],
+    uint64_t places[640], uint32_t assumed[64], uint64_t node_variables[512],
     uint16_t heads[576][3], uint8_t images[576][2][32], uint16_t made[3][64],
     uint8_t values[64][32], uint32_t asked[2][512], uint8_t firsts[576][32],
     uint32_t marks[2][512]);

@@ -50,7 +50,7 @@ module _ {p : Problem} {t : Bindings} {count bound : ℕ} (m : MeaningIn p t cou
 
 -- ---- the solver adds the assumptions, as many variables as it counts
 
-module _ {s : List ℕ} {places : List (List ℕ)} {assumed : List ℕ} {c : Counts} (read : ReadInto s places assumed c) {t : Bindings} {count bound : ℕ}
+module _ {s : List ℕ} {places : List ℕ} {assumed : List ℕ} {c : Counts} (read : ReadInto s places assumed c) {t : Bindings} {count bound : ℕ}
     {asked : List (List ℕ)} {steps : ℕ} (e : Ended (problemOf s) t count bound asked steps) {asked′ : List (List ℕ)}
     (added : AssumptionsAdded (c .variables) assumed asked asked′) where
   all-added : AssumptionsAdded (problemOf s .variables) assumed asked asked′
@@ -67,8 +67,8 @@ module _ {s : List ℕ} {places : List (List ℕ)} {assumed : List ℕ} {c : Cou
   solver-outcome resolves =
       resolves count (e .meant) _ (assumptions-asks (problemOf s) (read .standing .readable) assumed asked asked′ (read .assumptions) all-added (e .asks))
 
-pub few-variables : {s : List ℕ} {places : List (List ℕ)} {assumed : List ℕ} {c : Counts} → ReadInto s places assumed c → c .variables ≤ 64
+pub few-variables : {s : List ℕ} {places : List ℕ} {assumed : List ℕ} {c : Counts} → ReadInto s places assumed c → c .variables ≤ 64
 few-variables read = omega (arith, all-variables _ (read .counts), read .standing .readable .few-variables)
 
-pub few-atoms : {s : List ℕ} {places : List (List ℕ)} {assumed : List ℕ} {c : Counts} → ReadInto s places assumed c → c .atoms ≤ 32
+pub few-atoms : {s : List ℕ} {places : List ℕ} {assumed : List ℕ} {c : Counts} → ReadInto s places assumed c → c .atoms ≤ 32
 few-atoms read = omega (arith, all-atoms _ (read .counts), read .standing .readable .few-atoms)

@@ -1,4 +1,6 @@
 // The field reader: what stands at the front of some bytes, its body as a part of them, and the numbers in a body. Nothing is copied.
+pub mod word; // word.rt: the first eight bytes of a field as one number
+
 ghost use mathlib.Core.Path.{_≡_};
 ghost use Prim.Native.Nat.{_+_, _≤_, _<_};
 ghost use lib.ListN.{length, take, drop};

@@ -1,7 +1,7 @@
 -- Which variables wait, and that each turn less is left to do: the rows of what was passed on grow, and they are words.
 use Prim.Native.Nat.{ℕ, zero, suc, _+_, _-_, _≤_, _<_, _^_}
 use native.Mathlib.Omega.{arith}
-use mathlib.Core.Path.{_≡_, refl, sym, _∙_, ap}
+use mathlib.Core.Path.{_≡_, refl, sym, _∙_, ap, subst}
 use mathlib.Core.Logic.{_≢_}
 use mathlib.Core.Bool.{Bool, true, false, not, _&&_, _||_, true≢false}
 use mathlib.Core.List.{List}
@@ -12,19 +12,35 @@ use Rattle.names.proofs.Equal.{by-eq, by-lt}
 use Rattle.problem.specs.Problem.{Problem}
 use Rattle.demands.specs.Demands.{onVariables}
 use Rattle.visit.proofs.Rows.{row-other}
-use Rattle.fresh.specs.Marks.{doneIn, newAt, NextBetween, Next, Passed}
+use Rattle.fresh.specs.Marks.{doneIn, newAt, NextBetween, LastBelow, Next, Passed}
 
 -- ---- the next variable
 
--- None from a number on and none before it.
-pub next-none : {bound : ℕ} {asked done : List ℕ} {least variables x y : ℕ}
-    → NextBetween bound asked done least variables x → variables ≤ x → NextBetween bound asked done 0 least y → least ≤ y
-    → Next bound asked done variables variables
-next-none {least = least} m h n k = record {
-  most = omega arith;
-  found = λ l. absurd (omega arith);
-  none = λ e X l q.
-      by-lt X least (λ j. n .none (omega (arith, n .within)) X (omega arith) j q) (λ j. m .none (omega (arith, m .within)) X j l q);
+-- Going down by one: what was passed does not wait, and nor does the one here.
+pub waits-not-more : (bound : ℕ) (asked done : List ℕ) (most x : ℕ)
+    → ((X : ℕ) → x ≤ X → X < most → member bound X ≡ true → newAt asked done X ≡ 0)
+    → (member bound (x - 1) ≡ true → newAt asked done (x - 1) ≡ 0)
+    → (X : ℕ) → x - 1 ≤ X → X < most → member bound X ≡ true → newAt asked done X ≡ 0
+waits-not-more bound asked done most x all here X m l =
+    by-lt X x
+    (λ k. subst (λ (Y : ℕ). member bound Y ≡ true → newAt asked done Y ≡ 0) (omega arith) here)
+    (λ k. all X k l)
+
+-- Of those below a number and those from it on: one of either, or none of both.
+pub next-above : {bound : ℕ} {asked done : List ℕ} {from variables x y : ℕ}
+    → LastBelow bound asked done from variables y → variables ≤ y → NextBetween bound asked done from variables x → Next bound asked done variables x
+next-above {from = from} b h n = record {
+  most = n .within;
+  found = n .found;
+  none = λ e X l q. by-lt X from (λ j. b .none (omega (arith, b .most)) X j q) (λ j. n .none e X j l q);
+}
+
+pub next-below : {bound : ℕ} {asked done : List ℕ} {from variables x y : ℕ}
+    → NextBetween bound asked done from variables x → variables ≤ x → LastBelow bound asked done from variables y → Next bound asked done variables y
+next-below {from = from} n h b = record {
+  most = b .most;
+  found = b .found;
+  none = λ e X l q. by-lt X from (λ j. b .none e X j q) (λ j. n .none (omega (arith, n .within)) X j l q);
 }
 
 -- ---- the measure: what the rows lack

@@ -74,6 +74,12 @@ pub record NextBetween (bound : ℕ) (asked done : List ℕ) (least most r : ℕ
   pub found : r < most → (member bound r ≡ true) × (0 < newAt asked done r)
   pub none : r ≡ most → (X : ℕ) → least ≤ X → X < most → member bound X ≡ true → newAt asked done X ≡ 0
 
+-- A variable that waits so; the number after the last variable, if none of those below one does.
+pub record LastBelow (bound : ℕ) (asked done : List ℕ) (from variables r : ℕ) : Type 0 where
+  pub most : r ≤ variables
+  pub found : r < variables → (member bound r ≡ true) × (0 < newAt asked done r)
+  pub none : r ≡ variables → (X : ℕ) → X < from → member bound X ≡ true → newAt asked done X ≡ 0
+
 -- A variable that waits so; the number after the last variable, if there is none.
 pub record Next (bound : ℕ) (asked done : List ℕ) (variables r : ℕ) : Type 0 where
   pub most : r ≤ variables

@@ -13,10 +13,10 @@ ghost use Rattle.problem.specs.Look.{Standing, NodeStands, formNow};
 ghost use Rattle.bindings.specs.Bindings.{nodeOf, imagesOf};
 ghost use Rattle.demands.specs.Demands.{onNodes, onVariables};
 ghost use Rattle.visit.specs.Pairs.{Pair};
-ghost use Rattle.visit.specs.Visited.{Marked, sentInto, Looked};
+ghost use Rattle.visit.specs.Visited.{Marked, sentInto, Looked, Settled};
 ghost use Rattle.fresh.specs.Resolved.{PairsResolved};
-ghost use Rattle.fresh.specs.Marks.{seenIn, doneIn, Demanded, SoFar, Begun, LookedThrough, valueAt, Bound, atomOf, newAt, Waits, NextBetween, Next};
-ghost use Rattle.fresh.specs.Marks.{Passed, clashAt, Clashed};
+ghost use Rattle.fresh.specs.Marks.{seenIn, doneIn, Demanded, SoFar, Begun, LookedThrough, valueAt, Bound, atomOf, newAt, Waits, NextBetween};
+ghost use Rattle.fresh.specs.Marks.{LastBelow, Next, Passed, clashAt, Clashed};
 use bindings::Made;
 use bindings::Values;
 use demands::Asked;
@@ -117,21 +117,53 @@ fn next_between(
     x
 }
 
-// A variable that waits: the first from one on, or else the first before it. Going round like this, a turn of `close` does not pass again all that
-// were found to wait no more. Past the last variable stands `end`.
-fn next(bound: VariableSet, asked: &Asked, marks: &Marks, from: Variable, end: Variable) -> Variable
+// The last variable that waits, of those below one; past the last variable stands `end`.
+fn last_below(
+    bound: VariableSet,
+    asked: &Asked,
+    marks: &Marks,
+    from: Variable,
+    end: Variable,
+) -> Variable
+    requires { ⌜ (from .0 ≤ end .0) × (end .0 ≤ 64) ⌝ }
+    ensures { λ r. ⌜ LastBelow (bound .0) (onVariables (now (asked .entry))) (doneIn (now (marks .entry))) (from .0) (end .0) (r .0) ⌝ }
+{
+    let mut x = from.0;
+    while x > 0 {
+        x -= 1;
+        if waits(bound, asked, marks, Variable(x)) {
+            return Variable(x);
+        }
+    }
+    end
+}
+
+// A variable that waits: going up the nearest from one on, or else the nearest below it; going down the other way round. Which one it is does not
+// matter to what is resolved: the direction is a hint. A chain of values that each hold the variable before, or the one after, is so followed from
+// neighbour to neighbour, and a turn of `close` does not pass again all that were found to wait no more. Past the last variable stands `end`.
+fn next(
+    bound: VariableSet,
+    asked: &Asked,
+    marks: &Marks,
+    from: Variable,
+    up: bool,
+    end: Variable,
+) -> Variable
     requires { ⌜ (from .0 ≤ end .0) × (end .0 ≤ 64) ⌝ }
     ensures { λ r. ⌜ Next (bound .0) (onVariables (now (asked .entry))) (doneIn (now (marks .entry))) (end .0) (r .0) ⌝ }
 {
-    let x = next_between(bound, asked, marks, from, end);
-    if x.0 < end.0 {
-        return x;
+    if up {
+        let x = next_between(bound, asked, marks, from, end);
+        if x.0 < end.0 {
+            return x;
+        }
+        return last_below(bound, asked, marks, from, end);
     }
-    let y = next_between(bound, asked, marks, Variable(0), from);
-    if y.0 < from.0 {
+    let y = last_below(bound, asked, marks, from, end);
+    if y.0 < end.0 {
         return y;
     }
-    end
+    next_between(bound, asked, marks, from, end)
 }
 
 // Passes a bound variable's new atoms on to its value.
@@ -148,6 +180,7 @@ fn pass_on(
     requires held { ⌜ Standing (now s) (now places) × (atoms ≡ problemOf (now s) .atoms) ⌝ }
     requires there { ⌜ (x .0 < 64) × (nodeOf (now made) (x .0) < length (problemOf (now s) .nodes)) ⌝ }
     requires waits { ⌜ 0 < newAt (onVariables (now asked)) (doneIn (now marks)) (x .0) ⌝ }
+    requires settled { ⌜ Settled (problemOf (now s) .nodes) (SoFar (problemOf (now s)) (now asked) (now marks)) ⌝ }
     ensures { λ r. ⌜ Passed (problemOf (now (s .entry))) (now (made .entry)) (now (values .entry)) (x .0)
         (now (asked .entry)) (now (marks .entry)) (now (asked .exit)) (now (marks .exit)) ⌝ }
 {
@@ -165,7 +198,7 @@ fn pass_on(
     );
 }
 
-// Passes on all that waits.
+// Passes on all that waits. It goes on in the direction in which the last variable was found.
 fn close(
     s: &[u8],
     places: &Places,
@@ -192,11 +225,14 @@ fn close(
 {
     let end = Variable(variables as u8);
     let mut x = Variable(0);
+    let mut up = true;
     loop {
-        x = next(bound, asked, marks, x, end);
-        if x.0 == end.0 {
+        let y = next(bound, asked, marks, x, up, end);
+        if y.0 == end.0 {
             break;
         }
+        up = x.0 <= y.0;
+        x = y;
         pass_on(s, places, made, values, asked, marks, atoms, x);
     }
 }

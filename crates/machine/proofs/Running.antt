@@ -5,7 +5,6 @@ use native.Mathlib.Omega.{arith}
 use mathlib.Core.Path.{_≡_, refl, sym, _∙_, ap}
 use mathlib.Core.Logic.{_≢_}
 use mathlib.Core.List.{List, [], _∷_, _++_}
-use lib.ListN.{length}
 use Rattle.sets.specs.Bits.{member}
 use Rattle.numbers.specs.declared.Given.{Given}
 use Rattle.problem.specs.Held.{problemOf}
@@ -15,35 +14,24 @@ use Rattle.problem.proofs.Counted.{all-atoms, all-variables, all-nodes}
 use Rattle.run.specs.Meaning.{Side, Binding}
 use Rattle.run.specs.Run.{Equation, Subject, Demand, Ground, Refusal, Step, refuses, goes-on, step, End, limit, finished, pending}
 use Rattle.run.specs.Run.{bindings, demands, next, run, equationsFrom}
-use Rattle.run.specs.Circle.{Circleless}
 use Rattle.run.specs.Answer.{refusalNumber}
 use Rattle.room.specs.Stacks.{at-start, after-step}
-use Rattle.room.proofs.Room.{reaches-room}
 use Rattle.stack.specs.Stack.{Stack, stackOf, equationOf, Topped, Started}
 use Rattle.stack.specs.declared.Pending.{Pending}
 use Rattle.stack.proofs.Stack.{stackOf-none, length-stackOf}
-use Rattle.bindings.specs.Bindings.{Bindings, bindingsOf, Keeps}
-use Rattle.demands.specs.Demands.{sheet, demandsCleared, Raised}
+use Rattle.bindings.specs.Bindings.{Bindings, bindingsOf}
+use Rattle.demands.specs.Demands.{sheet, demandsCleared}
 use Rattle.demands.proofs.Demands.{raised-none}
 use Rattle.side.specs.Side.{groundIn}
 use Rattle.perform.specs.declared.State.{State}
 use Rattle.perform.specs.declared.Stepped.{Stepped}
 use Rattle.perform.specs.declared.Outcome.the-variants.{Goes, Refuses}
 use Rattle.perform.specs.Performed.{StepTables, GoneOn, Performed}
-use Rattle.machine.specs.Step.{FromStart, Footing, Present, stepHere}
-use Rattle.machine.specs.Run.{Ready, Founded, Began, RunEnded, endOf}
+use Rattle.quick.specs.Going.{FromStart, endOf, Going}
+use Rattle.quick.proofs.Underway.{few-wait}
+use Rattle.machine.specs.Step.{Footing, Present, stepHere}
+use Rattle.machine.specs.Run.{Ready, Founded, Began, RunEnded}
 use Rattle.machine.specs.declared.verdict.Ran.{Ran}
-
--- The state in the tables, after so many steps from a start with the bindings `first`.
-pub record Going (s : List ℕ) (A w L : ℕ) (first : List Binding) (t : StepTables) (steps : ℕ) (state : State) : Type 0 where
-  pub circleless : Circleless (problemOf s .atoms) (problemOf s .variables) (problemOf s .nodes) first
-  pub keeps : Keeps (t .bindings .made) (state .count) (state .bound .0)
-  pub demanded : List Demand
-  pub reached : FromStart s w first (stackOf A (t .stack) (state .waiting)) (bindingsOf A (t .bindings) (state .count)) demanded
-  pub same : endOf s w L first
-      ≡ run (groundIn s (member w)) (L - steps) (stackOf A (t .stack) (state .waiting)) (bindingsOf A (t .bindings) (state .count)) demanded
-  pub raised : Raised (length (problemOf s .nodes)) (problemOf s .variables) demanded (t .sheet)
-  pub within : steps ≤ L
 
 -- What a run that ends there gives back.
 abbrev ran : Given → ℕ → State → Ran
@@ -67,7 +55,7 @@ run-step g k e es bs ds = refl
 
 -- ---- the start
 
-pub going-start : {s : List ℕ} {places : List (List ℕ)} {nodeVariables : List ℕ} {A w L : ℕ} {t : StepTables} {start : State}
+pub going-start : {s : List ℕ} {places : List ℕ} {nodeVariables : List ℕ} {A w L : ℕ} {t : StepTables} {start : State}
     → Began s places nodeVariables A (t .stack) (t .bindings) (t .sheet) start → Going s A w L (bindingsOf A (t .bindings) (start .count)) t 0 start
 going-start {L = L} h =
     let all-left : L - 0 ≡ L = omega arith in
@@ -87,7 +75,7 @@ going-start {L = L} h =
 abbrev pub below : State → State
 below state = record { waiting = state .waiting - 1; bound = state .bound; count = state .count }
 
-module _ {s : List ℕ} {places : List (List ℕ)} {nodeVariables : List ℕ} {A w L : ℕ} {first : List Binding} {t : StepTables} {steps : ℕ} {state : State}
+module _ {s : List ℕ} {places : List ℕ} {nodeVariables : List ℕ} {A w L : ℕ} {first : List Binding} {t : StepTables} {steps : ℕ} {state : State}
     (footing : Footing s places nodeVariables A) (h : Going s A w L first t steps state) where
   abbrev ground : Ground
   ground = groundIn s (member w)
@@ -101,7 +89,7 @@ module _ {s : List ℕ} {places : List (List ℕ)} {nodeVariables : List ℕ} {A
 
   pub going-few : state .waiting ≤ 576
   going-few =
-      let few = reaches-room (problemOf s) (footing .standing .readable) (member w) (h .circleless) _ _ _ (h .reached) in
+      let few = few-wait s w (footing .standing .readable) (h .circleless) (h .reached) in
       omega (arith, few, length-stackOf A (t .stack) (state .waiting))
 
   -- No equation is left.
@@ -196,7 +184,7 @@ module _ {s : List ℕ} {places : List (List ℕ)} {nodeVariables : List ℕ} {A
 
 -- ---- where the loop begins
 
-module _ {s : List ℕ} {places : List (List ℕ)} {nodeVariables : List ℕ} {c : Counts} (h : Ready s places nodeVariables c) where
+module _ {s : List ℕ} {places : List ℕ} {nodeVariables : List ℕ} {c : Counts} (h : Ready s places nodeVariables c) where
   abbrev problem : Problem
   problem = problemOf s
 

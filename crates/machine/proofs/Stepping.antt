@@ -19,9 +19,8 @@ use Rattle.run.specs.Meaning.{Side, Binding, meaning}
 use Rattle.run.specs.Run.{Subject, Ground, top, valueOf, permuted, resolved, goes-on, rule, step, pending}
 use Rattle.run.proofs.Did.{occursSide}
 use Rattle.run.proofs.Bindings.{Meant, Settled}
-use Rattle.run.proofs.States.{State as RunState, state-next, start-from, Keeps as KeepsAll, step-keeps}
+use Rattle.run.proofs.States.{State as RunState, Keeps as KeepsAll, step-keeps}
 use Rattle.room.specs.Stacks.{after-step}
-use Rattle.room.proofs.Reached.{reached-all}
 use Rattle.room.proofs.Room.{reaches-room}
 use Rattle.stack.specs.Stack.{Stack, stackOf, equationOf}
 use Rattle.stack.specs.declared.Pending.{Pending}
@@ -39,6 +38,7 @@ use Rattle.rule.specs.Rule.{RuleFits, OccursTold, Free, Agrees, Decided}
 use Rattle.rule.proofs.Ruling.{ruled, Names, names}
 use Rattle.perform.specs.declared.State.{State}
 use Rattle.perform.specs.Performed.{stepTold, Takes}
+use Rattle.quick.proofs.Underway.{state-reached, values-there}
 use Rattle.machine.specs.Step.{Present, stepHere}
 
 length-pending : (k : ℕ) (qs : List (Side × Side)) → length (pending k qs) ≡ length qs
@@ -107,7 +107,7 @@ module _ (s : List ℕ) (A w : ℕ) (state : State) (bs : List Binding) (l r : H
 
 -- ---- in a state that the run comes to
 
-module _ {s : List ℕ} {places : List (List ℕ)} {nodeVariables : List ℕ} {A w : ℕ} {waiting : Stack} {made : Bindings} {state : State} {e : Pending}
+module _ {s : List ℕ} {places : List ℕ} {nodeVariables : List ℕ} {A w : ℕ} {waiting : Stack} {made : Bindings} {state : State} {e : Pending}
     (h : Present s places nodeVariables A w waiting made state e) where
   abbrev problem : Problem
   problem = problemOf s
@@ -128,9 +128,7 @@ module _ {s : List ℕ} {places : List (List ℕ)} {nodeVariables : List ℕ} {A
   few = rw (h .footing .number) (readable .few-atoms)
 
   run-state : RunState ground (problem .variables) (readable .named-nodes) (equationOf A e ∷ stackOf A waiting (state .waiting)) bs (h .demanded)
-  run-state =
-      reached-all (RunState ground (problem .variables) (readable .named-nodes)) (state-next ground (problem .variables) (readable .named-nodes))
-      (start-from problem readable (member w) (h .circleless)) (h .reached)
+  run-state = state-reached s w readable (h .circleless) (h .reached)
 
   meant : Meant ground (problem .variables) bs (meaning (problem .nodes) bs)
   meant = run-state .meant
@@ -139,7 +137,7 @@ module _ {s : List ℕ} {places : List (List ℕ)} {nodeVariables : List ℕ} {A
   values-stand = rooted A made (state .count) bound (h .keeps)
 
   pub nodes-there : NodesThere (length (problem .nodes)) (made .made) bound
-  nodes-there Y b = let (v, q, z) = values-stand .valued Y b in rw z (meant .fits Y v q .there)
+  nodes-there = values-there A made (state .count) bound (h .keeps) meant
 
   pub nodes-small : NodesThere 512 (made .made) bound
   nodes-small Y b = omega (arith, nodes-there Y b, readable .few-nodes)

@@ -3,7 +3,6 @@ use Prim.Native.Nat.{ℕ, _+_}
 use mathlib.Core.Path.{_≡_}
 use mathlib.Core.List.{List, []}
 use lib.ListN.{length}
-use Rattle.sets.specs.Bits.{member}
 use Rattle.numbers.specs.declared.Given.{Given}
 use Rattle.problem.specs.Problem.{Problem}
 use Rattle.problem.specs.Held.{problemOf}
@@ -11,21 +10,20 @@ use Rattle.problem.specs.Look.{Standing}
 use Rattle.problem.specs.Told.{countsOf}
 use Rattle.problem.specs.declared.Counts.{Counts}
 use Rattle.run.specs.Meaning.{Binding}
-use Rattle.run.specs.Run.{Demand, End, limit, refused, finished, run, equationsFrom}
+use Rattle.run.specs.Run.{Demand, End, limit, refused, finished, equationsFrom}
 use Rattle.run.specs.Circle.{Circleless}
 use Rattle.run.specs.Answer.{refusalNumber}
 use Rattle.stack.specs.Stack.{Stack, stackOf}
 use Rattle.bindings.specs.Bindings.{Bindings, bindingsOf, Keeps}
 use Rattle.demands.specs.Demands.{Sheet, Raised}
 use Rattle.occurs.specs.Reached.{FilledBelow}
-use Rattle.side.specs.Side.{groundIn}
 use Rattle.perform.specs.Performed.{StepTables}
 use Rattle.perform.specs.declared.State.{State}
 use Rattle.machine.specs.Step.{Footing}
 use Rattle.machine.specs.declared.verdict.Ran.{Ran}
 
 -- What a run leans on: the problem that was read stands in the input, c has its numbers, and the sets of its nodes' variables are there.
-pub record Ready (s : List ℕ) (places : List (List ℕ)) (nodeVariables : List ℕ) (c : Counts) : Type 0 where
+pub record Ready (s : List ℕ) (places : List ℕ) (nodeVariables : List ℕ) (c : Counts) : Type 0 where
   pub standing : Standing s places
   pub counts : c ≡ countsOf (problemOf s)
   pub filled : FilledBelow (problemOf s .nodes) nodeVariables (length (problemOf s .nodes))
@@ -36,16 +34,12 @@ pub record Founded (p : Problem) (t : Bindings) (count bound : ℕ) : Type 0 whe
   pub circleless : Circleless (p .atoms) (p .variables) (p .nodes) (bindingsOf (p .atoms) t count)
 
 -- The start: the problem's equations wait, and nothing is demanded yet.
-pub record Began (s : List ℕ) (places : List (List ℕ)) (nodeVariables : List ℕ) (A : ℕ) (waiting : Stack) (made : Bindings) (asked : Sheet)
+pub record Began (s : List ℕ) (places : List ℕ) (nodeVariables : List ℕ) (A : ℕ) (waiting : Stack) (made : Bindings) (asked : Sheet)
     (start : State) : Type 0 where
   pub footing : Footing s places nodeVariables A
   pub founded : Founded (problemOf s) made (start .count) (start .bound .0)
   pub stack : stackOf A waiting (start .waiting) ≡ equationsFrom (problemOf s .atoms) 0 (problemOf s .equations)
   pub raised : Raised (length (problemOf s .nodes)) (problemOf s .variables) [] asked
-
--- The definition's run from the bindings `first`, with the variables of the set w protected and at most L steps.
-abbrev pub endOf : List ℕ → ℕ → ℕ → List Binding → End
-endOf s w L first = run (groundIn s (member w)) L (equationsFrom (problemOf s .atoms) 0 (problemOf s .equations)) first []
 
 -- The number and place that an end has by itself: 0 where the run is finished, and what comes of it is not known yet.
 abbrev pub endGiven : End → Given

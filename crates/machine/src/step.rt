@@ -9,7 +9,6 @@ use bindings::Made;
 use bindings::Values;
 use demands::Asked;
 use demands::Firsts;
-use occurs::NodeVariables;
 use perform::State;
 use perform::Stepped;
 use problem::Places;
@@ -18,6 +17,7 @@ use side::Side;
 use stack::Heads;
 use stack::Images;
 use stack::Pending;
+use variables::NodeVariables;
 
 // The step of the equation e, which was above those that wait.
 pub fn step(

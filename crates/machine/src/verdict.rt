@@ -4,7 +4,8 @@ ghost use Rattle.bindings.specs.Bindings as bindings;
 ghost use Rattle.demands.specs.Demands.{sheet};
 ghost use Rattle.perform.specs.Performed.{tablesOf};
 ghost use Rattle.problem.specs.Held.{problemOf};
-ghost use Rattle.machine.specs.Run.{Founded, Began, Ready, RunEnded, endOf};
+ghost use Rattle.quick.specs.Going.{endOf};
+ghost use Rattle.machine.specs.Run.{Founded, Began, Ready, RunEnded};
 use crate::step::step;
 use bindings::Made;
 use bindings::Values;
@@ -14,7 +15,6 @@ use numbers::ACCEPTED;
 use numbers::Given;
 use numbers::LIMIT;
 use numbers::give;
-use occurs::NodeVariables;
 use perform::Outcome;
 use perform::State;
 use problem::Counts;
@@ -22,6 +22,7 @@ use problem::Places;
 use sets::VariableSet;
 use stack::Heads;
 use stack::Images;
+use variables::NodeVariables;
 
 // How a run ends: 0 (accepted), 8 (limit), 9 (clash), 10 (a variable inside its own value) or 11 (protected), each but the first with the number of the
 // equation. With it the steps taken, which variables are bound, and how many.
@@ -32,7 +33,8 @@ pub struct Ran {
     pub count: usize,
 }
 
-// "Take the top, if fewer than L steps have been taken", from the start on, where nothing is demanded yet.
+// "Take the top, if fewer than L steps have been taken", from the start on, where nothing is demanded yet. Most steps need no side to be put together, and
+// are taken where the equation lies (`quick`).
 fn go(
     s: &[u8],
     places: &Places,
@@ -60,6 +62,22 @@ fn go(
     let mut state = start;
     let mut steps: u32 = 0;
     let v = loop {
+        let went = quick::go(
+            s,
+            places,
+            heads,
+            images,
+            made,
+            values,
+            asked,
+            firsts,
+            atoms,
+            state,
+            steps,
+            limit,
+        );
+        state.waiting = went.waiting;
+        steps = went.steps;
         if state.waiting == 0 {
             break give(ACCEPTED, 0);
         }

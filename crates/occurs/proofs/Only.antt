@@ -3,12 +3,9 @@ use Prim.Native.Nat.{ℕ, _^_, _<_}
 use mathlib.Core.Path.{_≡_, sym, _∙_}
 use mathlib.Core.Bool.{Bool, true}
 use mathlib.Core.List.{List}
-use lib.ListN.{length, getD}
-use Rattle.names.proofs.Equal.{by-lt}
 use Rattle.sets.specs.Bits.{member}
 use Rattle.sets.proofs.Bits.{by-test, sets-extensional}
-use Rattle.problem.specs.Problem.{Node}
-use Rattle.occurs.specs.Reached.{Filled, VariableReached, inside, through, Closure, OccursAnswered}
+use Rattle.occurs.specs.Reached.{VariableReached, inside, through, Closure, OccursAnswered}
 use Rattle.occurs.proofs.Sets.{apart}
 
 alike : (a b : Bool) → (a ≡ true → b ≡ true) → (b ≡ true → a ≡ true) → a ≡ b
@@ -33,11 +30,3 @@ module _ {bound : ℕ} {made : List (List ℕ)} (nodeVariables : List ℕ) {star
 pub answered-only : {bound : ℕ} {made : List (List ℕ)} (nodeVariables : List ℕ) {n X : ℕ} {q r : Bool}
     → OccursAnswered bound made nodeVariables n X q → OccursAnswered bound made nodeVariables n X r → q ≡ r
 answered-only nodeVariables {X = X} a b = a .answer ∙ closure-members nodeVariables (a .closure) (b .closure) X ∙ sym (b .answer)
-
--- `fill` leaves one content in every row, for rows of 64 bits.
-pub filled-only : (nodes : List Node) (before v w : List ℕ) → Filled nodes before v → Filled nodes before w
-    → (n : ℕ) → getD v n 0 < 2 ^ 64 → getD w n 0 < 2 ^ 64 → getD v n 0 ≡ getD w n 0
-filled-only nodes before v w f g n h k =
-    by-lt n (length nodes)
-    (λ l. sets-extensional 64 (getD v n 0) (getD w n 0) h k (λ X x. f .sets n l X ∙ sym (g .sets n l X)))
-    (λ l. f .others n l ∙ sym (g .others n l))

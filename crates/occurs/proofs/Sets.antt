@@ -1,16 +1,15 @@
--- The sets of the nodes and the set of what is reached, as the two loops make them.
-use Prim.Native.Nat.{ℕ, _+_, _^_, _≤_, _<_}
+-- The sets of the nodes, made of those of their parts, have the variables of the nodes' trees; and the set of what is reached, as the loop makes it.
+use Prim.Native.Nat.{ℕ, zero, suc, _^_, _≤_, _<_}
 use native.Mathlib.Omega.{arith}
 use mathlib.Core.Path.{_≡_, refl, sym, _∙_, ap}
 use mathlib.Core.Logic.{⊎-elim}
 use mathlib.Core.Bool.{Bool, true, false, _||_}
 use mathlib.Core.List.{List}
-use lib.ListN.{length, getD, set}
-use lib.Seq.{getD-set-same, getD-set-other}
+use lib.ListN.{length}
 use lib.Dec.{eqb}
 use borrow.Author.Tests.{eqb-true}
 use Rattle.names.proofs.Equal.{by-eq}
-use Rattle.sets.specs.Bits.{member, union, intersection, inserted, removed, lowest, count}
+use Rattle.sets.specs.Bits.{member, union, intersection, removed, lowest, count}
 use Rattle.sets.proofs.Bits.{
   by-member,
   member-empty,
@@ -29,18 +28,13 @@ use Rattle.sets.proofs.Bits.{
   not-empty,
   count-removed-lt,
 }
-use Rattle.problem.specs.Problem.{Node, Problem, formAt}
-use Rattle.problem.specs.Readable.{Readable}
-use Rattle.problem.specs.Look.{formTold, untold, ownSwaps}
-use Rattle.problem.specs.declared.Form.{Form}
-use Rattle.problem.specs.declared.Form.the-variants.{Unit, Atom, Abstraction, Pair, Application, Suspension}
+use Rattle.problem.specs.Problem.{Node, unit-form, atom-form, abstraction-form, pair-form, application-form, suspension-form, Problem, formAt}
+use Rattle.problem.specs.Readable.{Named, Readable}
+use Rattle.problem.specs.Look.{formTold}
 use Rattle.problem.proofs.Readable.{both}
-use Rattle.problem.proofs.Looking.{told-back, named-told}
+use Rattle.variables.specs.Variables.{setOf, variablesOf, VariablesKept}
 use Rattle.run.specs.Meaning.{occursIn}
 use Rattle.run.proofs.Trees.{built, tree-built}
-use Rattle.names.specs.declared.Atom as names-atom
-use Rattle.names.specs.declared.Variable as names-variable
-use Rattle.names.specs.declared.NodeId.{NodeId}
 use Rattle.occurs.specs.Reached.{VariablesOf, FilledBelow, behind, VariableReached, inside, through, Closure}
 
 or-false : (b : Bool) → b || false ≡ b
@@ -51,63 +45,39 @@ or-false false = refl
 pub apart : {R : Type 0} {b : Bool} → b ≡ true → b ≡ false → R
 apart p q = let w : true ≡ false = sym p ∙ q in let z : _≡_ {A = ℕ} 0 1 = cc in absurd (omega arith)
 
--- ---- a node's set, by the form that was told
+-- ---- the sets of the nodes
 
-module _ {p : Problem} (r : Readable p) (n : ℕ) where
-  -- The form of the node, as the code has it.
-  abbrev pub Told : Form → Type 0
-  Told f = formTold (formAt (p .nodes) n) ≡ f
+module _ {p : Problem} (r : Readable p) (table : List ℕ) where
+  -- What is made of the sets of a form's parts has the variables of the tree that the form builds.
+  variables-built : {n : ℕ} → FilledBelow (p .nodes) table n → (f : Node) → Named (p .atoms) (p .variables) n f
+      → (X : ℕ) → member (variablesOf table (formTold f)) X ≡ occursIn X (built (p .nodes) f)
+  variables-built filled unit-form named X = member-empty X
+  variables-built filled (atom-form a) named X = member-empty X
+  variables-built filled (abstraction-form a m) named X = filled m (named .1) X
+  variables-built filled (pair-form l m) named X =
+      rw (member-union (setOf table l) (setOf table m) X, filled l (named .0) X, filled m (named .1) X)
+  variables-built filled (application-form f m) named X = filled m named X
+  variables-built filled (suspension-form π Y) named X =
+      let small : Y < 64 = omega (arith, named .0, r .few-variables) in
+      rw (member-inserted 64 0 Y X small, member-empty X) (or-false (eqb X Y))
 
-  -- What occurs in a node is what occurs in the tree that its form builds.
-  by-form : {f : Form} → Told f → (w : ℕ)
-      → ((X : ℕ) → member w X ≡ occursIn X (built (p .nodes) (untold (ownSwaps (formAt (p .nodes) n)) f))) → VariablesOf (p .nodes) n w
-  by-form e w h X =
-      let known = tree-built (p .atoms) (p .variables) (p .nodes) (r .named-nodes) n in
-      h X ∙ sym (ap (occursIn X) (known ∙ ap (built (p .nodes)) (told-back (formAt (p .nodes) n) (sym e))))
+  module _ (kept : VariablesKept (p .nodes) table) where
+    -- A node's set, where those below it are right.
+    next-filled : (n : ℕ) → n < length (p .nodes) → FilledBelow (p .nodes) table n → VariablesOf (p .nodes) n (setOf table n)
+    next-filled n h filled X =
+        ap (λ w. member w X) (kept n h)
+        ∙ variables-built filled (formAt (p .nodes) n) (r .named-nodes n) X
+        ∙ sym (ap (occursIn X) (tree-built (p .atoms) (p .variables) (p .nodes) (r .named-nodes) n))
 
-  pub variables-unit : Told Unit → (w : ℕ) → w ≡ 0 → VariablesOf (p .nodes) n w
-  variables-unit e w q = by-form e w (λ X. rw q (member-empty X))
+    filled-below : (k : ℕ) → k ≤ length (p .nodes) → FilledBelow (p .nodes) table k
+    filled-below zero h n l = absurd (omega arith)
+    filled-below (suc k) h n l =
+        let lower = filled-below k (omega arith) in
+        by-eq n k (λ e. rw e (next-filled k (omega arith) lower)) (λ d. lower n (omega arith))
 
-  pub variables-atom : (a : names-atom.Atom) → Told (Atom a) → (w : ℕ) → w ≡ 0 → VariablesOf (p .nodes) n w
-  variables-atom a e w q = by-form e w (λ X. rw q (member-empty X))
-
-  pub variables-suspension : (Y : names-variable.Variable) → Told (Suspension Y) → (w : ℕ) → w ≡ inserted 64 0 (Y .0) → VariablesOf (p .nodes) n w
-  variables-suspension Y e w q =
-      by-form e w λ X.
-      let small : Y .0 < 64 = omega (arith, named-told r n (sym e) .0, r .few-variables) in
-      rw (q, member-inserted 64 0 (Y .0) X small, member-empty X) (or-false (eqb X (Y .0)))
-
-  module _ (nodeVariables : List ℕ) (filled : FilledBelow (p .nodes) nodeVariables n) where
-    pub variables-abstraction : (a : names-atom.Atom) (m : NodeId) → Told (Abstraction a m) → (w : ℕ) → w ≡ getD nodeVariables (m .0) 0
-        → VariablesOf (p .nodes) n w
-    variables-abstraction a m e w q = by-form e w (λ X. rw q (filled (m .0) (named-told r n (sym e) .1) X))
-
-    pub variables-application : (f : ℕ) (m : NodeId) → Told (Application f m) → (w : ℕ) → w ≡ getD nodeVariables (m .0) 0
-        → VariablesOf (p .nodes) n w
-    variables-application f m e w q = by-form e w (λ X. rw q (filled (m .0) (named-told r n (sym e)) X))
-
-    pub variables-pair : (l m : NodeId) → Told (Pair l m) → (w : ℕ) → w ≡ union (getD nodeVariables (l .0) 0) (getD nodeVariables (m .0) 0)
-        → VariablesOf (p .nodes) n w
-    variables-pair l m e w q =
-        let k = named-told r n (sym e) in
-        by-form e w λ X.
-        rw (q, member-union (getD nodeVariables (l .0) 0) (getD nodeVariables (m .0) 0) X, filled (l .0) (k .0) X, filled (m .0) (k .1) X)
-
--- ---- the loop that fills the table
-
-pub filled-none : (nodes : List Node) (table : List ℕ) → FilledBelow nodes table 0
-filled-none nodes table n h = absurd (omega arith)
-
-pub filled-more : (nodes : List Node) (table : List ℕ) (k w : ℕ) → k < length table → FilledBelow nodes table k → VariablesOf nodes k w
-    → FilledBelow nodes (set table k w) (k + 1)
-filled-more nodes table k w l f v n h =
-    by-eq n k
-    (λ e. rw (e, getD-set-same table k w 0 l) v)
-    (λ d. rw (getD-set-other table k n w 0 d) (f n (omega arith)))
-
-pub others-kept : (table before : List ℕ) (k w m : ℕ) → k < m → ((i : ℕ) → m ≤ i → getD table i 0 ≡ getD before i 0)
-    → (i : ℕ) → m ≤ i → getD (set table k w) i 0 ≡ getD before i 0
-others-kept table before k w m l h i j = getD-set-other table k i w 0 (λ e. absurd (omega arith)) ∙ h i j
+    -- A node's parts are below it: so all sets are right.
+    pub kept-filled : FilledBelow (p .nodes) table (length (p .nodes))
+    kept-filled = filled-below (length (p .nodes)) (omega arith)
 
 -- ---- the loop that looks through bindings
 

@@ -1,11 +1,11 @@
 -- The occurs check over sets of variables: which set belongs to a node, and which variables are reached from a node through bindings. Definitions
 -- alone; that the reached ones are those of the tree under the bindings' meaning is shown in proofs/.
-use Prim.Native.Nat.{ℕ, _≤_, _<_}
+use Prim.Native.Nat.{ℕ, _<_}
 use mathlib.Core.Path.{_≡_}
 use mathlib.Core.Bool.{Bool, true}
 use mathlib.Core.List.{List, List·Memᴰ}
 use mathlib.Core.Option.{some}
-use lib.ListN.{length, getD}
+use lib.ListN.{getD}
 use Rattle.sets.specs.Bits.{member}
 use Rattle.problem.specs.Problem.{Node}
 use Rattle.run.specs.Meaning.{tree, occursIn, Side, Binding}
@@ -16,13 +16,9 @@ use Rattle.bindings.specs.Bindings.{nodeOf}
 abbrev pub VariablesOf : List Node → ℕ → ℕ → Type 0
 VariablesOf nodes n w = (X : ℕ) → member w X ≡ occursIn X (tree nodes n)
 
--- The table has the sets of the nodes below k; of all nodes, and every other row is as it was.
+-- The table has the sets of the nodes below k.
 abbrev pub FilledBelow : List Node → List ℕ → ℕ → Type 0
 FilledBelow nodes nodeVariables k = (n : ℕ) → n < k → VariablesOf nodes n (getD nodeVariables n 0)
-
-pub record Filled (nodes : List Node) (before after : List ℕ) : Type 0 where
-  pub sets : FilledBelow nodes after (length nodes)
-  pub others : (n : ℕ) → length nodes ≤ n → getD after n 0 ≡ getD before n 0
 
 -- The set that a bound variable is looked through to: that of its value's node.
 abbrev pub behind : List (List ℕ) → List ℕ → ℕ → ℕ

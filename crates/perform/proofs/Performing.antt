@@ -5,11 +5,11 @@ use mathlib.Core.Path.{_≡_, refl, sym, _∙_, ap}
 use mathlib.Core.List.{List, [], _∷_, _++_, map, append-nil}
 use lib.ListN.{length}
 use Rattle.names.specs.declared.NodeId.{NodeId}
-use Rattle.permutation.specs.Table.{Table, after, inverted, swappedAfter, disagreement}
+use Rattle.permutation.specs.Table.{Table, identity, after, inverted, swappedAfter, disagreement}
 use Rattle.permutation.specs.Store.{table, ofTable}
 use Rattle.permutation.specs.declared.Permutation.{Permutation}
-use Rattle.permutation.proofs.Table.{length-after}
-use Rattle.permutation.proofs.Store.{table-ofTable, length-table, table-inverted, table-swappedAfter, members-disagreement}
+use Rattle.permutation.proofs.Table.{identity-after, inverted-identity}
+use Rattle.permutation.proofs.Store.{length-table, table-after, table-inverted, table-swappedAfter, members-disagreement}
 use Rattle.sets.specs.Bits.{members, ofList}
 use Rattle.sets.specs.declared.VariableSet.{VariableSet}
 use Rattle.problem.specs.Held.{problemOf}
@@ -26,7 +26,7 @@ use Rattle.side.proofs.Resolving.{length-whole}
 use Rattle.perform.specs.declared.State.{State}
 use Rattle.perform.specs.declared.Stepped.{Stepped}
 use Rattle.perform.specs.declared.Outcome.the-variants.{Refuses}
-use Rattle.perform.specs.Performed.{StepTables, tablesOf, goneTo, StackGrown, DisagreementRaised, heldValue, BoundTo, Refused, GoneOn}
+use Rattle.perform.specs.Performed.{StepTables, tablesOf, goneTo, StackGrown, DisagreementRaised, BoundTo, Refused, GoneOn}
 
 -- ---- equations
 
@@ -59,21 +59,27 @@ disagreement-raised {A} {w} s P Q m k left right few is-left is-right is-set h n
 
 -- ---- a binding
 
-pub value-is : {back images : Permutation} (s : List ℕ) (A : ℕ) (P : Table) (m : ℕ) (outer q : Permutation) (k : NodeId)
-    → table A outer ≡ wholeOf s A P m → back ≡ ofTable (inverted (table A outer)) → images ≡ ofTable (after (table A back) (table A q))
-    → record { images = images; node = k } ≡ heldValue (under (inverted (wholeOf s A P m)) (sideAt A q k))
-value-is {back} s A P m outer q k is-outer is-back is-images =
-    let back-is : table A back ≡ inverted (wholeOf s A P m) =
-    ap (table A) is-back ∙ rw is-outer (table-inverted A (wholeOf s A P m) (length-whole s A P m)) in
-    ap (λ (p : Permutation). record { images = p; node = k }) (is-images ∙ rw back-is)
+-- The images under the inverse of the whole permutation: as they were, where that is the identity, and otherwise those that the code has composed.
+module _ (A : ℕ) (outer q : Permutation) (few : A ≤ 32) (long : length (q .images) ≡ 32) where
+  pub under-identity : table A outer ≡ identity A → table A q ≡ after (inverted (table A outer)) (table A q)
+  under-identity nothing = rw (nothing, inverted-identity) (sym (identity-after A (table A q) (length-table A q (omega arith))))
 
-pub length-value : {A : ℕ} (P : Table) (q : Permutation) (k : NodeId) → A ≤ 32 → length (q .images) ≡ 32 → length (under P (sideAt A q k) .images) ≡ A
-length-value {A} P q k few whole = length-after P (table A q) ∙ length-table A q (omega arith)
+  pub under-composed : (back r : Permutation) → length (outer .images) ≡ 32 → back ≡ ofTable (inverted (table A outer))
+      → r ≡ ofTable (after (table A back) (table A q)) → table A r ≡ after (inverted (table A outer)) (table A q)
+  under-composed back r whole is-back is-r =
+      ap (table A) is-r ∙ table-after A (table A back) (table A q) (length-table A q (omega arith))
+      ∙ ap (λ (T : Table). after T (table A q)) (ap (table A) is-back ∙ table-inverted A (table A outer) (length-table A outer (omega arith)))
+
+pub value-is : (s : List ℕ) (A : ℕ) (P : Table) (m : ℕ) (outer q images : Permutation) (k : NodeId) → table A outer ≡ wholeOf s A P m
+    → table A images ≡ after (inverted (table A outer)) (table A q)
+    → sideOf A (record { images = images; node = k }) ≡ under (inverted (wholeOf s A P m)) (sideAt A q k)
+unfolding sideOf
+value-is s A P m outer q images k is-outer is-images = rw (is-images, is-outer) refl
 
 pub bound-to : {A number X : ℕ} {v : Side} {before after : Bindings} {state : State} {value : Value} {more : VariableSet} {r : Stepped}
-    → Added before (state .count) (state .bound .0) X value number after (more .0) → value ≡ heldValue v → length (v .images) ≡ A
+    → Added before (state .count) (state .bound .0) X value number after (more .0) → sideOf A value ≡ v
     → r ≡ goneTo (state .waiting) more (state .count + 1) → BoundTo A number X v before state after r
-bound-to added is-value long gone = rw gone (record { added = rw is-value at added; images = long; gone = refl })
+bound-to {value = value} added same gone = rw gone (record { value = value; same = same; added = added; gone = refl })
 
 -- ---- what refuses
 
@@ -127,13 +133,13 @@ module _ {s : List ℕ} {A number : ℕ} {state : State} {made : Bindings} (keep
 pub gone-bound : {s : List ℕ} {A number X : ℕ} {v : Side} {before after : Bindings} {state : State} {waiting : Stack} {asked : Sheet} {r : Stepped} → A ≤ 32
     → BoundTo A number X v before state after r
     → GoneOn s A number [] ((X, v) ∷ []) [] (tablesOf waiting before asked) state (tablesOf waiting after asked) r
-unfolding bindingOf sideOf
-gone-bound {A = A} {v = v} few h =
+unfolding bindingOf
+gone-bound {A = A} few h =
     rw (h .gone)
     (record {
       outcome = refl;
       stack = refl;
-      made = rw (table-ofTable A (v .images) (h .images)) at (h .added .bindings A few);
+      made = rw (h .same) at (h .added .bindings A few);
       keeps = h .added .keeps;
       raised = λ ds raised. rw append-nil raised;
     })

@@ -5,7 +5,7 @@ use mathlib.Core.Bool.{false}
 use mathlib.Core.List.{List, _++_, map}
 use lib.ListN.{length}
 use Rattle.permutation.specs.Table.{Table, disagreement}
-use Rattle.permutation.specs.Store.{table, ofTable}
+use Rattle.permutation.specs.Store.{table}
 use Rattle.sets.specs.Bits.{member}
 use Rattle.sets.specs.declared.VariableSet.{VariableSet}
 use Rattle.problem.specs.Held.{problemOf}
@@ -14,7 +14,7 @@ use Rattle.run.specs.Meaning.{Side}
 use Rattle.run.specs.Run.{Subject, of-variable, Demand, Refusal, Step, refuses, goes-on, pending, bindings, demands}
 use Rattle.run.specs.Answer.{refusalNumber}
 use Rattle.stack.specs.Stack.{Stack, mostWaiting, stackOf}
-use Rattle.bindings.specs.Bindings.{Bindings, bindingsOf, Keeps, Added}
+use Rattle.bindings.specs.Bindings.{Bindings, bindingsOf, Keeps, Added, sideOf}
 use Rattle.bindings.specs.declared.Value.{Value}
 use Rattle.demands.specs.Demands.{Sheet, Raised}
 use Rattle.side.specs.Side.{sideHeld, wholeOf}
@@ -58,14 +58,11 @@ DisagreementRaised P Q X k before after =
     (nodes variables : ℕ) (ds : List Demand) → nodes ≤ 512 → Raised nodes variables ds before
     → Raised nodes variables (ds ++ demands k (map (λ a. (a, of-variable X)) (disagreement P Q))) after
 
--- The definition's value as the code holds it.
-abbrev pub heldValue : Side → Value
-heldValue v = record { images = ofTable (v .images); node = record { 0 = v .node } }
-
--- One more binding, of X to a value that has the images of A atoms.
+-- One more binding, of X to a value that the code holds: with A atoms in use it is the definition's.
 pub record BoundTo (A number X : ℕ) (v : Side) (before : Bindings) (state : State) (after : Bindings) (r : Stepped) : Type 0 where
-  pub added : Added before (state .count) (state .bound .0) X (heldValue v) number after (r .state .bound .0)
-  pub images : length (v .images) ≡ A
+  pub value : Value
+  pub same : sideOf A value ≡ v
+  pub added : Added before (state .count) (state .bound .0) X value number after (r .state .bound .0)
   pub gone : r ≡ goneTo (state .waiting) (r .state .bound) (state .count + 1)
 
 -- ---- what an act takes
@@ -87,7 +84,7 @@ Takes s A state l r (Same x) = (x .0 < problemOf s .variables) × Hangs s (l .no
 Takes s A state l r (BindLeft x) = (x .0 < problemOf s .variables) × Hangs s (l .node .0) × (member (state .bound .0) (x .0) ≡ false)
 Takes s A state l r (BindRight x) = (x .0 < problemOf s .variables) × Hangs s (r .node .0) × (member (state .bound .0) (x .0) ≡ false)
 
-pub record Fit (s : List ℕ) (places : List (List ℕ)) (A : ℕ) (state : State) (made : List (List ℕ)) (l r : HeldSide) (act : Act) : Type 0 where
+pub record Fit (s : List ℕ) (places : List ℕ) (A : ℕ) (state : State) (made : List (List ℕ)) (l r : HeldSide) (act : Act) : Type 0 where
   pub standing : Standing s places
   pub number : A ≡ problemOf s .atoms
   pub keeps : Keeps made (state .count) (state .bound .0)

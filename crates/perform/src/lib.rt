@@ -4,7 +4,7 @@ ghost use mathlib.Core.Bool.{false};
 ghost use mathlib.Core.List.{[], _∷_};
 ghost use Prim.Native.Nat.{ℕ, _+_, _≤_, _<_};
 ghost use Rattle.permutation.specs.Store.{table};
-ghost use Rattle.permutation.specs.Table.{inverted};
+ghost use Rattle.permutation.specs.Table.{after, inverted};
 ghost use Rattle.sets.specs.Bits.{member};
 ghost use Rattle.problem.specs.Held.{problemOf};
 ghost use Rattle.problem.specs.Look.{Standing};
@@ -148,6 +148,18 @@ fn goes(waiting: usize, bound: VariableSet, count: usize) -> Stepped
     stays(Outcome::Goes, state)
 }
 
+// Images under the inverse of another permutation. Most often that is the identity: then they are as they were, and nothing is inverted or composed.
+fn under_inverse(outer: Permutation, q: Permutation, atoms: usize) -> Permutation
+    requires { ⌜ atoms ≤ 32 ⌝ }
+    ensures { λ r. ⌜ table atoms r ≡ after (inverted (table atoms outer)) (table atoms q) ⌝ }
+{
+    if permutation::is_identity(outer) {
+        return q;
+    }
+    let back = permutation::invert(outer, atoms);
+    permutation::compose(back, q, atoms)
+}
+
 // "X becomes the inverse of P applied to the right side. The binding holds the right side's node and the images acting on it from outside; that node's
 // own swaps aren't folded in."
 fn bind(
@@ -172,8 +184,7 @@ fn bind(
         (bindings.bindingTables (now (made .exit)) (now (values .exit))) z ⌝ }
 {
     let outer = side::whole(s, places, atoms, p, m);
-    let back = permutation::invert(outer, atoms);
-    let images = permutation::compose(back, q, atoms);
+    let images = under_inverse(outer, q, atoms);
     let value = Value {
         images: images,
         node: k,

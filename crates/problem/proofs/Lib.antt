@@ -1,5 +1,5 @@
 pub mod Readable
-pub mod Located
+pub mod Kept
 pub mod Looking
 pub mod Repeated
 pub mod Refusals

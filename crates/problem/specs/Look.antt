@@ -1,14 +1,17 @@
 -- What the code looks up in the problem that an input is, in the code's own types, and what has to stand in the input and in the tables for it.
 -- Definitions alone.
 use Prim.Native.Nat.{ℕ, _<_}
-use mathlib.Core.List.{List, []}
+use mathlib.Core.Bool.{cond}
+use mathlib.Core.List.{List, [], _∷_}
 use lib.ListN.{length, getD}
+use lib.Dec.{eqb}
+use Rattle.field.specs.Word.{tagIn, keyIn, firstByteIn, firstTwoIn, middleTwoIn, lastTwoIn}
 use Rattle.permutation.specs.Swaps.{Swaps}
 use Rattle.problem.specs.Problem.{Node, unit-form, atom-form, abstraction-form, pair-form, application-form, suspension-form, formAt}
 use Rattle.problem.specs.Problem.{Equal, Fresh}
 use Rattle.problem.specs.Reader.{node, equation, freshness}
 use Rattle.problem.specs.Readable.{Readable}
-use Rattle.problem.specs.Held.{ItemStands, problemOf}
+use Rattle.problem.specs.Held.{ItemKept, nodeWord, equationWord, freshnessWord, problemOf}
 use Rattle.problem.specs.declared.Form.{Form}
 use Rattle.problem.specs.declared.Form.the-variants.{Unit, Atom, Abstraction, Pair, Application, Suspension}
 use Rattle.problem.specs.declared.look.Equation.{Equation}
@@ -30,32 +33,22 @@ equationNow s k = equationAt (problemOf s .equations) k
 abbrev pub freshnessNow : List ℕ → ℕ → Fresh
 freshnessNow s k = freshnessAt (problemOf s .freshness) k
 
--- The table of offsets: a column for nodes, one for equations, one for freshness fields.
-abbrev pub nodePlaces : List (List ℕ) → List ℕ
-nodePlaces places = getD places 0 []
-
-abbrev pub equationPlaces : List (List ℕ) → List ℕ
-equationPlaces places = getD places 1 []
-
-abbrev pub freshPlaces : List (List ℕ) → List ℕ
-freshPlaces places = getD places 2 []
-
--- A field stands where the table says.
-pub record NodeStands (s : List ℕ) (places : List (List ℕ)) (n : ℕ) : Type 0 where
+-- A field stands in the input, and the table keeps what it should of it.
+pub record NodeStands (s places : List ℕ) (n : ℕ) : Type 0 where
   pub small : n < 512
-  pub stands : ItemStands s (getD (nodePlaces places) n 0) (node (formNow s n))
+  pub kept : ItemKept s (nodeWord places n) (node (formNow s n))
 
-pub record EquationStands (s : List ℕ) (places : List (List ℕ)) (k : ℕ) : Type 0 where
+pub record EquationStands (s places : List ℕ) (k : ℕ) : Type 0 where
   pub small : k < 64
-  pub stands : ItemStands s (getD (equationPlaces places) k 0) (equation (equationNow s k))
+  pub kept : ItemKept s (equationWord places k) (equation (equationNow s k))
 
-pub record FreshnessStands (s : List ℕ) (places : List (List ℕ)) (k : ℕ) : Type 0 where
+pub record FreshnessStands (s places : List ℕ) (k : ℕ) : Type 0 where
   pub small : k < 64
-  pub stands : ItemStands s (getD (freshPlaces places) k 0) (freshness (freshnessNow s k .atom) (freshnessNow s k .node))
+  pub kept : ItemKept s (freshnessWord places k) (freshness (freshnessNow s k .atom) (freshnessNow s k .node))
 
--- The problem that was read stands in the input: it is within the limits with every name there, and each of its fields is where the table says. What
--- everything after the reader leans on.
-pub record Standing (s : List ℕ) (places : List (List ℕ)) : Type 0 where
+-- The problem that was read stands in the input: it is within the limits with every name there, and each of its fields is in the table. What everything
+-- after the reader leans on.
+pub record Standing (s places : List ℕ) : Type 0 where
   pub readable : Readable (problemOf s)
   pub nodes : (n : ℕ) → n < length (problemOf s .nodes) → NodeStands s places n
   pub equations : (k : ℕ) → k < length (problemOf s .equations) → EquationStands s places k
@@ -69,6 +62,21 @@ formTold (abstraction-form a n) = Abstraction (record { 0 = a }) (record { 0 = n
 formTold (pair-form l r) = Pair (record { 0 = l }) (record { 0 = r })
 formTold (application-form f n) = Application f (record { 0 = n })
 formTold (suspension-form π X) = Suspension (record { 0 = X })
+
+-- The form that is read off what is kept of a node. That it is the node's own is a law (proofs/Looking.antt).
+unfoldable pub formIn : ℕ → Form
+formIn w =
+    cond (eqb (tagIn w) 0x10) Unit
+    (cond (eqb (tagIn w) 0x11) (Atom (record { 0 = firstByteIn w }))
+    (cond (eqb (tagIn w) 0x12) (Abstraction (record { 0 = firstByteIn w }) (record { 0 = middleTwoIn w }))
+    (cond (eqb (tagIn w) 0x13) (Pair (record { 0 = firstTwoIn w }) (record { 0 = lastTwoIn w }))
+    (cond (eqb (tagIn w) 0x14) (Application (firstTwoIn w) (record { 0 = lastTwoIn w }))
+    (Suspension (record { 0 = firstByteIn w }))))))
+
+-- The variable of a suspension without swaps that is read off what is kept of a node, and 255, which is no variable, of another form. That it is the
+-- node's own is a law too.
+unfoldable pub bareIn : ℕ → ℕ
+bareIn w = cond (eqb (keyIn w) 0x150001) (firstByteIn w) 255
 
 -- The form again, from what is told of it and its swaps.
 abbrev pub untold : Swaps → Form → Node
@@ -93,6 +101,16 @@ Suspended (abstraction-form a n) = ⊥
 Suspended (pair-form l r) = ⊥
 Suspended (application-form f n) = ⊥
 Suspended (suspension-form π X) = Prim.Unit {0}
+
+-- The variable of a suspension without swaps, and 255, which is no variable, of another form.
+abbrev pub bareOf : Node → ℕ
+bareOf unit-form = 255
+bareOf (atom-form a) = 255
+bareOf (abstraction-form a n) = 255
+bareOf (pair-form l r) = 255
+bareOf (application-form f n) = 255
+bareOf (suspension-form [] X) = X
+bareOf (suspension-form (s ∷ π) X) = 255
 
 abbrev pub ownSwaps : Node → Swaps
 ownSwaps unit-form = []

@@ -28,7 +28,7 @@ countsOf p =
     }
 
 -- The input was read as a problem: it stands where the table says, its numbers are told, and the sets have what is assumed and who is protected.
-pub record ReadInto (s : List ℕ) (places : List (List ℕ)) (assumed : List ℕ) (c : Counts) : Type 0 where
+pub record ReadInto (s : List ℕ) (places : List ℕ) (assumed : List ℕ) (c : Counts) : Type 0 where
   pub standing : Standing s places
   pub counts : c ≡ countsOf (problemOf s)
   pub assumptions : (a X : ℕ) → X < problemOf s .variables → member (assumedFor assumed X) a ≡ assumes (problemOf s .assumptions) a X

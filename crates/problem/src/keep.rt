@@ -1,9 +1,10 @@
-// Keeping what was read: an offset in a column, an atom that is assumed fresh for a variable. The reader calls these; what lies where is known here alone.
+// Keeping what was read: the first bytes of a field, an atom that is assumed fresh for a variable. The reader calls these; what lies where is known here alone.
 ghost use mathlib.Core.Path.{_≡_};
 ghost use mathlib.Core.List.{_++_};
 ghost use Prim.Native.Nat.{_≤_, _<_};
 ghost use lib.ListN.{length, getD, set, drop, replicate};
 ghost use Rattle.sets.specs.Bits.{inserted};
+ghost use Rattle.problem.specs.Held.{withPlace};
 use names::Atom;
 use names::Variable;
 use sets::AtomSet;
@@ -32,10 +33,17 @@ pub fn clear(assumed: &mut [u32], variables: u8)
     }
 }
 
-// An offset behind the n that stand in a column.
-pub fn put(column: &mut [u16], n: usize, at: u16)
-    requires { ⌜ n < length (now column) ⌝ }
-    ensures { λ r. ⌜ now (column .exit) ≡ set (now (column .entry)) n at ⌝ }
+// What is kept of a field at place n: its first eight bytes; of a suspension the last two of these are its offset.
+pub fn put(places: &mut [u64], n: usize, w: u64)
+    requires { ⌜ n < length (now places) ⌝ }
+    ensures { λ r. ⌜ now (places .exit) ≡ set (now (places .entry)) n w ⌝ }
 {
-    column[n] = at;
+    places[n] = w;
+}
+
+pub fn put_suspension(places: &mut [u64], n: usize, w: u64, at: u16)
+    requires { ⌜ n < length (now places) ⌝ }
+    ensures { λ r. ⌜ now (places .exit) ≡ set (now (places .entry)) n (withPlace at w) ⌝ }
+{
+    places[n] = w / 65536 * 65536 + at as u64;
 }

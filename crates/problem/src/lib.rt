@@ -1,5 +1,6 @@
-// A problem as its bytes say it. The reader goes once through the bytes and keeps no copy of them: it leaves the offsets of the fields in tables
-// that the caller lends, and a node, an equation or a freshness field is read from the bytes again where it is wanted.
+// A problem as its bytes say it. The reader goes once through the bytes and keeps no copy of them: of each node, equation and freshness field it leaves
+// the first eight bytes in a table that the caller lends, as one number, and reads from that what stands there where it is wanted. A suspension's swaps
+// stay in the input.
 use names::Atom;
 use names::MOST_NODES;
 use names::MOST_VARIABLES;
@@ -10,17 +11,17 @@ use sets::VariableSet;
 pub mod keep; // keep.rt: what the reader leaves in the tables
 pub mod look; // look.rt: nodes, equations and freshness fields, from the bytes
 
-// The offsets at which the fields stand: a column for nodes, one for equations, one for freshness fields.
-pub type Places = [[u16; MOST_NODES]; 3];
+// The equations stand behind the nodes, and the freshness fields behind the equations.
+pub const EQUATIONS: usize = MOST_NODES;
 
-// Its columns.
-pub const NODES: usize = 0;
+pub const FRESHNESS: usize = EQUATIONS + 64;
 
-pub const EQUATIONS: usize = 1;
+const FIELDS: usize = FRESHNESS + 64;
 
-pub const FRESHNESS: usize = 2;
+// Of each field its first eight bytes as one number (field::word); of a suspension the last two are its offset.
+pub type Places = [u64; FIELDS];
 
-pub const EMPTY_PLACES: Places = [[0; MOST_NODES]; 3];
+pub const EMPTY_PLACES: Places = [0; FIELDS];
 
 // By variable the atoms that are assumed fresh for it.
 pub type Assumed = [u32; MOST_VARIABLES];

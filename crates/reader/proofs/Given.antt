@@ -13,6 +13,7 @@ use Rattle.reader.specs.Told.{told}
 use Rattle.reader.specs.Tables.{ReaderTables, readerTables}
 use Rattle.reader.specs.Told.{ReadAs}
 use Rattle.problem.specs.Told.{ReadInto}
+use Rattle.variables.specs.Variables.{VariablesKept}
 use Rattle.problem.specs.declared.Counts.{Counts}
 use Rattle.reader.specs.declared.Reading as answer
 use Rattle.reader.specs.declared.Reading.the-variants.{Read, Refused}
@@ -44,15 +45,20 @@ pub is-refused : {s : List ℕ} {t u : ReaderTables} {r : answer.Reading} {g : G
     → reading baseTags s ≡ unreadable (g .number) (g .place)
 is-refused {s} {t} {u} {r} {g} h e = told-refused s g (sym e ∙ h .the-answer)
 
-pub read-into : (places : List (List ℕ)) (assumed : List ℕ) {s : List ℕ} {t : ReaderTables} {r : answer.Reading} {c : Counts}
-    → ReadAs s t r (readerTables places assumed) → r ≡ Read c → ReadInto s places assumed c
-unfolding countsOf
-read-into places assumed {s} {t} {r} {c} h e =
-    let counts = told-read s c (sym e ∙ h .the-answer) .1 in
-    let held = h .is-held (problemOf s) (is-read h e) in
-    record {
-      standing = standing s places assumed _ held (h .is-readable (problemOf s) (is-read h e));
-      counts = counts;
-      assumptions = held .assumptions;
-      protected = λ X. ap (λ (d : Counts). member (d .protected .0) X) counts ∙ held .protection X;
-    }
+-- The problem stands as those after the reader ask; and of each node the set of its variables is there.
+module _ {s : List ℕ} {t : ReaderTables} {r : answer.Reading} {c : Counts} (places assumed variables : List ℕ)
+    (h : ReadAs s t r (readerTables places assumed variables)) (e : r ≡ Read c) where
+  pub read-into : ReadInto s places assumed c
+  unfolding countsOf
+  read-into =
+      let counts = told-read s c (sym e ∙ h .the-answer) .1 in
+      let held = h .is-held (problemOf s) (is-read h e) .0 in
+      record {
+        standing = standing s places assumed _ held (h .is-readable (problemOf s) (is-read h e));
+        counts = counts;
+        assumptions = held .assumptions;
+        protected = λ X. ap (λ (d : Counts). member (d .protected .0) X) counts ∙ held .protection X;
+      }
+
+  pub sets-kept : VariablesKept (problemOf s .nodes) variables
+  sets-kept = h .is-held (problemOf s) (is-read h e) .1

@@ -1,5 +1,11 @@
+pub mod Keeping
+pub mod Greatest
+pub mod Found
+pub mod Stepping
+pub mod Steps
 pub mod OneField
 pub mod Holding
 pub mod Onward
+pub mod Passing
 pub mod Opened
 pub mod Given

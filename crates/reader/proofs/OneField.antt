@@ -1,21 +1,20 @@
 -- One field of the definitions of reading and noting, and the fields behind it. The definitions count fields down; as many as there are bytes are enough, so a
 -- field leaves the bytes behind it to be read, and noted, in the same way.
-use Prim.Native.Nat.{ℕ, zero, suc, _+_, _-_, _≤_}
+use Prim.Native.Nat.{ℕ, zero, suc, _+_, _-_, _≤_, _<_}
 use native.Mathlib.Omega.{arith}
 use mathlib.Core.Path.{_≡_, refl, _∙_, ap}
 use mathlib.Core.Bool.{Bool}
 use mathlib.Core.List.{List, [], _∷_}
 use lib.ListN.{length, length-drop}
 use Rattle.field.specs.Field.{Field, cut, whole, front}
-use Rattle.field.specs.Front.{frontOf}
-use Rattle.field.specs.declared.AtFront.the-variants.{Cut, End}
+use Rattle.field.specs.Word.{eight}
 use Rattle.field.proofs.Standing.{stands}
-use Rattle.field.proofs.Told.{at-end, at-cut}
 use Rattle.problem.specs.Problem.{Problem}
 use Rattle.problem.specs.Reader.{Reading, read, unreadable, item, sizes, add, fault, unless, oneField, fieldsFrom}
 use Rattle.says.specs.Told.{saidBy}
 use Rattle.problem.specs.Told.{countsOf}
 use Rattle.reader.specs.Tables.{ReaderTables, noted, stopped, oneNoted, notedFrom}
+use Rattle.reader.specs.Told.{readOn, noteOn}
 
 -- The bytes behind a field are fewer.
 fewer : (s : List ℕ) (tag : ℕ) (body rest : List ℕ) → front s ≡ whole tag body rest → 3 + length rest ≤ length s
@@ -25,13 +24,6 @@ fewer s tag body rest e =
     omega (arith, h .fits)
 
 module _ (known : ℕ → Bool) where
-  -- All the fields from offset o on.
-  abbrev pub readOn : Problem → ℕ → List ℕ → Reading
-  readOn p o s = fieldsFrom known (length s) p o s
-
-  abbrev pub noteOn : Problem → ℕ → List ℕ → ReaderTables → ReaderTables
-  noteOn p o s t = notedFrom known (length s) p o s t
-
   -- ---- as many fields as bytes are enough: more make no difference
 
   same-field : (p : Problem) (o : ℕ) (f g : Problem → ℕ → List ℕ → Reading) (x : Field)
@@ -52,11 +44,11 @@ module _ (known : ℕ → Bool) where
       same-field p o (λ q i r. fieldsFrom known j q i r) (λ q i r. fieldsFrom known k q i r) (front (b ∷ s))
       (λ tag body rest e q i. let m = fewer (b ∷ s) tag body rest e in fields-fuel j k q i rest (omega arith) (omega arith))
 
-  same-notes : (p : Problem) (o : ℕ) (t : ReaderTables) (f g : Problem → ℕ → List ℕ → ReaderTables → ReaderTables) (x : Field)
+  same-notes : (p : Problem) (o : ℕ) (t : ReaderTables) (f g : Problem → ℕ → List ℕ → ReaderTables → ReaderTables) (w : ℕ) (x : Field)
       → ((tag : ℕ) (body rest : List ℕ) → x ≡ whole tag body rest → (q : Problem) (i : ℕ) (u : ReaderTables) → f q i rest u ≡ g q i rest u)
-      → oneNoted known p o t f x ≡ oneNoted known p o t g x
-  same-notes p o t f g cut h = refl
-  same-notes p o t f g (whole tag body rest) h = ap (stopped (fault known (sizes p) tag body) t) (h tag body rest refl _ _ _)
+      → oneNoted known p o t f w x ≡ oneNoted known p o t g w x
+  same-notes p o t f g w cut h = refl
+  same-notes p o t f g w (whole tag body rest) h = ap (stopped (fault known (sizes p) tag body) t) (h tag body rest refl _ _ _)
 
   notes-fuel : (j k : ℕ) (p : Problem) (o : ℕ) (s : List ℕ) (t : ReaderTables) → length s ≤ j → length s ≤ k
       → notedFrom known j p o s t ≡ notedFrom known k p o s t
@@ -68,7 +60,7 @@ module _ (known : ℕ → Bool) where
   notes-fuel (suc j) zero p o (b ∷ s) t h l = absurd (omega arith)
   notes-fuel (suc j) (suc k) p o [] t h l = refl
   notes-fuel (suc j) (suc k) p o (b ∷ s) t h l =
-      same-notes p o t (λ q i r u. notedFrom known j q i r u) (λ q i r u. notedFrom known k q i r u) (front (b ∷ s))
+      same-notes p o t (λ q i r u. notedFrom known j q i r u) (λ q i r u. notedFrom known k q i r u) (eight (b ∷ s)) (front (b ∷ s))
       (λ tag body rest e q i u. let m = fewer (b ∷ s) tag body rest e in notes-fuel j k q i rest u (omega arith) (omega arith))
 
   -- ---- what is in front
@@ -78,8 +70,8 @@ module _ (known : ℕ → Bool) where
     pub field-sound : (s : List ℕ) (tag : ℕ) (body rest : List ℕ) → front s ≡ whole tag body rest → fault known (sizes p) tag body ≡ 0
         → let q = add p o (item tag body) in
         let i = o + (3 + length body) in
-        (readOn p o s ≡ readOn q i rest)
-        × ((t : ReaderTables) → noteOn p o s t ≡ noteOn q i rest (noted (saidBy 0 (item tag body)) o (countsOf p) t))
+        (readOn known p o s ≡ readOn known q i rest)
+        × ((t : ReaderTables) → noteOn known p o s t ≡ noteOn known q i rest (noted (saidBy 0 (item tag body)) (eight s) o (countsOf p) t))
     unfolding fieldsFrom notedFrom front
     field-sound [] tag body rest e z = let k : _≡_ {A = ℕ} 0 1 = cc in absurd (omega arith)
     field-sound (b ∷ s) tag body rest e z =
@@ -90,22 +82,19 @@ module _ (known : ℕ → Bool) where
 
     -- A field at fault.
     pub field-faulty : (s : List ℕ) (tag f : ℕ) (body rest : List ℕ) → front s ≡ whole tag body rest → fault known (sizes p) tag body ≡ f → (f ≡ 0 → ⊥)
-        → (readOn p o s ≡ unreadable f o) × ((t : ReaderTables) → noteOn p o s t ≡ t)
+        → (readOn known p o s ≡ unreadable f o) × ((t : ReaderTables) → noteOn known p o s t ≡ t)
     unfolding fieldsFrom notedFrom front
     field-faulty [] tag f body rest e z h = let k : _≡_ {A = ℕ} 0 1 = cc in absurd (omega arith)
     field-faulty (b ∷ s) tag zero body rest e z h = absurd (h refl)
     field-faulty (b ∷ s) tag (suc f) body rest e z h = (rw (e, z), λ t. rw (e, z))
 
     -- A field that is cut.
-    pub cut-field : (s : List ℕ) → frontOf s ≡ Cut → (readOn p o s ≡ unreadable 3 o) × ((t : ReaderTables) → noteOn p o s t ≡ t)
+    pub cut-field : (s : List ℕ) → 0 < length s → front s ≡ cut → (readOn known p o s ≡ unreadable 3 o) × ((t : ReaderTables) → noteOn known p o s t ≡ t)
     unfolding fieldsFrom notedFrom
-    cut-field s e = let h = at-cut s e in by-bytes s (h .first) (h .others) (h .some) (h .the-front)
-      where
-        by-bytes : (s : List ℕ) (b : ℕ) (u : List ℕ) → s ≡ b ∷ u → front s ≡ cut → (readOn p o s ≡ unreadable 3 o) × ((t : ReaderTables) → noteOn p o s t ≡ t)
-        by-bytes [] b u e f = let k : _≡_ {A = ℕ} 0 1 = cc in absurd (omega arith)
-        by-bytes (a ∷ s) b u e f = (rw f, λ t. rw f)
+    cut-field [] h e = absurd (omega arith)
+    cut-field (b ∷ s) h e = (rw e, λ t. rw e)
 
     -- Nothing.
-    pub no-field : (s : List ℕ) → frontOf s ≡ End → (readOn p o s ≡ read p) × ((t : ReaderTables) → noteOn p o s t ≡ t)
+    pub no-field : (s : List ℕ) → s ≡ [] → (readOn known p o s ≡ read p) × ((t : ReaderTables) → noteOn known p o s t ≡ t)
     unfolding fieldsFrom notedFrom
-    no-field s e = let n = at-end s e in (rw n, λ t. rw n)
+    no-field s e = (rw e, λ t. rw e)

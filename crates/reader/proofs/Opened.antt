@@ -14,12 +14,11 @@ use Rattle.problem.specs.Readable.{Readable}
 use Rattle.reader.specs.Told.{told}
 use Rattle.reader.specs.Tables.{ReaderTables, setsCleared, headNoted, allNoted, left}
 use Rattle.opening.specs.Head.{headSaid, openedBy, openingOf}
-use Rattle.reader.specs.Told.{FieldsRead, ReadAs}
+use Rattle.reader.specs.Told.{readOn, noteOn, FieldsRead, ReadAs}
 use Rattle.problem.specs.declared.Counts.{Counts}
 use Rattle.reader.specs.declared.Reading as answer
 use Rattle.opening.specs.declared.Opening.the-variants.{Good, NoHead, Cut}
 use Rattle.problem.proofs.Readable.{both, readable, headed-readable, not-read}
-use Rattle.reader.proofs.OneField.{readOn, noteOn}
 use Rattle.reader.proofs.Holding.{cleared-held}
 
 -- A good head has nine bytes and few atoms and variables.
@@ -149,7 +148,7 @@ module _ (s : List ℕ) (t : ReaderTables) (b : Bytes s) where
 
     -- Behind a good head the fields are read, over tables whose sets are cleared.
     pub well-opened : (head : Counts) (u : ReaderTables) (r : answer.Reading) → openingOf s ≡ Good (head .atoms) (head .variables) (head .limit)
-        → FieldsRead (drop 9 s) head (setsCleared (head .variables) t) r u → ReadAs s t r u
+        → FieldsRead s head (setsCleared (head .variables) t) r u → ReadAs s t r u
     well-opened head u r e f =
         let g = good-head s (head .atoms) (head .variables) (head .limit) e in
         record {
@@ -157,5 +156,5 @@ module _ (s : List ℕ) (t : ReaderTables) (b : Bytes s) where
           the-tables = f .the-tables ∙ sym (whole-left ∙ g .all-noted t);
           is-readable = λ p q. readable baseTags s p b q;
           is-held = λ p q.
-              f .is-held s p refl (cleared-held s (head .atoms) (head .variables) (head .limit) t) (sym (whole-reading ∙ g .all-read) ∙ q);
+              f .is-held p (cleared-held s (head .atoms) (head .variables) (head .limit) t) (sym (whole-reading ∙ g .all-read) ∙ q);
         }

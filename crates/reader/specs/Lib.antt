@@ -1,3 +1,5 @@
 pub mod Tables
 pub mod Noting
 pub mod Told
+pub mod Found
+pub mod Onward

@@ -6,7 +6,6 @@ use Rattle.sets.specs.Bits.{inserted}
 use Rattle.problem.specs.Problem.{Problem}
 use Rattle.problem.specs.Reader.{started}
 use Rattle.problem.specs.Readable.{Readable}
-use Rattle.problem.specs.Look.{nodePlaces, equationPlaces, freshPlaces}
 use Rattle.problem.specs.Told.{countsOf}
 use Rattle.reader.specs.Tables.{ReaderTables}
 use Rattle.problem.specs.declared.Counts.{Counts}
@@ -35,20 +34,11 @@ counted (Assumption a X) c = c
 counted (Protection X) c = with c (c .nodes) (c .equations) (c .freshness) (inserted 64 (c .protected .0) (X .0))
 counted (Fault f) c = c
 
--- It is within the limits, as the tests of a field without fault say.
-abbrev pub NotedWithin : Said → Counts → Type 0
-NotedWithin Node c = c .nodes < 512
-NotedWithin Equation c = c .equations < 64
-NotedWithin Freshness c = c .freshness < 64
-NotedWithin (Assumption a X) c = X .0 < 64
-NotedWithin (Protection X) c = Unit {0}
-NotedWithin (Fault f) c = Unit {0}
-
 -- The tables have a row for it.
 abbrev pub RowFor : Said → Counts → ReaderTables → Type 0
-RowFor Node c t = c .nodes < length (nodePlaces (t .places))
-RowFor Equation c t = c .equations < length (equationPlaces (t .places))
-RowFor Freshness c t = c .freshness < length (freshPlaces (t .places))
+RowFor Node c t = (c .nodes < length (t .places)) × (c .nodes < length (t .variables))
+RowFor Equation c t = 512 + c .equations < length (t .places)
+RowFor Freshness c t = 576 + c .freshness < length (t .places)
 RowFor (Assumption a X) c t = X .0 < length (t .assumed)
 RowFor (Protection X) c t = Unit {0}
 RowFor (Fault f) c t = Unit {0}
@@ -57,8 +47,9 @@ RowFor (Fault f) c t = Unit {0}
 abbrev pub startedBy : Counts → Problem
 startedBy c = started (c .atoms) (c .variables) (c .limit)
 
--- At the start: nothing is counted yet, the head is within the limits, and behind it come no more bytes than an input may have.
+-- At the start: nothing is counted yet, the head is within the limits, and the input has the head and no more bytes than an input may have.
 pub record Headed (bytes : ℕ) (head : Counts) : Type 0 where
   pub nothing : head ≡ countsOf (startedBy head)
   pub readable : Readable (startedBy head)
-  pub short : 9 + bytes ≤ 65535
+  pub nine : 9 ≤ bytes
+  pub short : bytes ≤ 65535

@@ -13,11 +13,11 @@ use bindings::Made;
 use names::Atom;
 use names::NodeId;
 use names::Variable;
-use occurs::NodeVariables;
 use permutation::Permutation;
 use problem::Form;
 use sets::VariableSet;
 use side::Side;
+use variables::NodeVariables;
 
 // What a step does: it is done, it refuses, it goes on with parts of both sides, it demands, or it binds.
 pub enum Act {

@@ -37,7 +37,7 @@ unfolding wholeOf
 whole-is s A P n own r π e f g =
     ap (table A) g ∙ rw (e, table-ofSwaps A π) (table-after A P (ofSwaps A π) (length-ofSwaps A π) ∙ rw f)
 
-after-none : (A : ℕ) (P : Table) → length P ≡ A → after P (ofSwaps A []) ≡ P
+pub after-none : (A : ℕ) (P : Table) → length P ≡ A → after P (ofSwaps A []) ≡ P
 unfolding after
 after-none A P l =
     rw (ofSwaps-none A)
@@ -101,12 +101,12 @@ module _ (bs : List Binding) (A : ℕ) (P : Table) (x : Side) (onward : Side →
   replaced-some (suspension-form π X) v e = rw e
 
 module _ (s : List ℕ) (f : ℕ → Bool) (bs : List Binding) (x : Side) where
-  resolved-stop : (k : ℕ) → valueTold bs (formTold (formNow s (x .node))) ≡ none → resolvedIn k (groundIn s f) bs x ≡ x
+  pub resolved-stop : (k : ℕ) → valueTold bs (formTold (formNow s (x .node))) ≡ none → resolvedIn k (groundIn s f) bs x ≡ x
   unfolding resolvedIn top
   resolved-stop zero e = refl
   resolved-stop (suc k) e = replaced-none bs (problemOf s .atoms) (x .images) x (λ t. resolvedIn k (groundIn s f) bs t) (formNow s (x .node)) e
 
-  resolved-on : (k : ℕ) (v : Side) → k ≢ 0 → valueTold bs (formTold (formNow s (x .node))) ≡ some v
+  pub resolved-on : (k : ℕ) (v : Side) → k ≢ 0 → valueTold bs (formTold (formNow s (x .node))) ≡ some v
       → resolvedIn k (groundIn s f) bs x ≡ resolvedIn (k - 1) (groundIn s f) bs (under (wholeOf s (problemOf s .atoms) (x .images) (x .node)) v)
   unfolding resolvedIn top wholeOf
   resolved-on zero v n e = absurd (n refl)
@@ -169,7 +169,7 @@ module _ (s : List ℕ) (A : ℕ) (t : Bindings) (bound k : ℕ) (before : Side)
 
 -- ---- a side that is no suspension of a bound variable
 
-unbound-told : (A : ℕ) (t : Bindings) (k bound : ℕ) → Keeps (t .made) k bound → (w : Form) → isBound bound w ≡ false
+pub unbound-told : (A : ℕ) (t : Bindings) (k bound : ℕ) → Keeps (t .made) k bound → (w : Form) → isBound bound w ≡ false
     → valueTold (bindingsOf A t k) w ≡ none
 unbound-told A t k bound h Unit e = refl
 unbound-told A t k bound h (Atom a) e = refl

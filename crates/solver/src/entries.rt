@@ -34,7 +34,7 @@ pub fn solve_with(
 ) -> Given
     ensures { λ r. ⌜ resultOf r (now (output .exit)) ≡ run.solve (now (input .entry)) (now (output .entry)) ⌝ }
 {
-    let reading = reader::read(input, places, assumed);
+    let reading = reader::read(input, places, assumed, node_variables);
     match reading {
         Reading::Refused(g) => g,
         Reading::Read(c) => solve_read(
@@ -71,7 +71,7 @@ pub fn judge_with(
 ) -> Given
     ensures { λ r. ⌜ judgementGiven r ≡ run.judge (now (input .entry)) ⌝ }
 {
-    let reading = reader::read(input, places, assumed);
+    let reading = reader::read(input, places, assumed, node_variables);
     match reading {
         Reading::Refused(g) => g,
         Reading::Read(c) => judge_read(

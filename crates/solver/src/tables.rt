@@ -3,7 +3,7 @@ pub type Places = problem::Places;
 
 pub type Assumed = problem::Assumed;
 
-pub type NodeVariables = occurs::NodeVariables;
+pub type NodeVariables = variables::NodeVariables;
 
 pub type Heads = stack::Heads;
 
@@ -24,7 +24,7 @@ pub const EMPTY_PLACES: Places = problem::EMPTY_PLACES;
 
 pub const EMPTY_ASSUMED: Assumed = problem::EMPTY_ASSUMED;
 
-pub const EMPTY_NODE_VARIABLES: NodeVariables = occurs::EMPTY_NODE_VARIABLES;
+pub const EMPTY_NODE_VARIABLES: NodeVariables = variables::EMPTY_NODE_VARIABLES;
 
 pub const EMPTY_HEADS: Heads = stack::EMPTY_HEADS;
 

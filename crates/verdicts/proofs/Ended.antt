@@ -17,7 +17,8 @@ use Rattle.bindings.specs.Bindings.{Bindings, bindingsOf}
 use Rattle.demands.specs.Demands.{onNodes, onVariables}
 use Rattle.numbers.specs.declared.Given.{Given}
 use Rattle.perform.specs.Performed.{StepTables}
-use Rattle.machine.specs.Run.{Founded, RunFinished, endOf, endGiven}
+use Rattle.quick.specs.Going.{endOf}
+use Rattle.machine.specs.Run.{Founded, RunFinished, endGiven}
 use Rattle.machine.specs.Run as machine
 use Rattle.machine.specs.declared.verdict.Ran.{Ran}
 use Rattle.fresh.proofs.Right.{meaningful}

@@ -2,6 +2,7 @@
 ghost use mathlib.Core.Path.{_≡_};
 ghost use Rattle.problem.specs.Held.{problemOf};
 ghost use Rattle.problem.specs.Told.{ReadInto};
+ghost use Rattle.variables.specs.Variables.{VariablesKept};
 ghost use Rattle.run.specs.Answer.{judgedRun};
 ghost use Rattle.run.specs.Answer as run;
 ghost use Rattle.numbers.specs.Numbers.{judgementGiven};
@@ -16,13 +17,13 @@ use numbers::DOES_NOT_HOLD;
 use numbers::Given;
 use numbers::LIMIT;
 use numbers::give;
-use occurs::NodeVariables;
 use problem::Assumed;
 use problem::Counts;
 use problem::Places;
 use sets::VariableSet;
 use stack::Heads;
 use stack::Images;
+use variables::NodeVariables;
 
 // What the judge gives back for a problem that was read.
 pub fn judge_read(
@@ -30,7 +31,7 @@ pub fn judge_read(
     c: Counts,
     places: &Places,
     assumed: &Assumed,
-    node_variables: &mut NodeVariables,
+    node_variables: &NodeVariables,
     heads: &mut Heads,
     images: &mut Images,
     made: &mut Made,
@@ -39,7 +40,7 @@ pub fn judge_read(
     firsts: &mut Firsts,
     marks: &mut Marks,
 ) -> Given
-    requires { ⌜ ReadInto (now input) (now places) (now assumed) c ⌝ }
+    requires { ⌜ ReadInto (now input) (now places) (now assumed) c × VariablesKept (problemOf (now input) .nodes) (now «node_variables») ⌝ }
     ensures { λ r. ⌜ judgementGiven r ≡ run.judgementOf (problemOf (now (input .entry))) (judgedRun (problemOf (now (input .entry)))) ⌝ }
 {
     let protected = VariableSet::below(64);

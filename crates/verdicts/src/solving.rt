@@ -2,6 +2,7 @@
 ghost use mathlib.Core.Path.{_≡_};
 ghost use Rattle.problem.specs.Held.{problemOf};
 ghost use Rattle.problem.specs.Told.{ReadInto};
+ghost use Rattle.variables.specs.Variables.{VariablesKept};
 ghost use Rattle.run.specs.Run.{runOf};
 ghost use Rattle.run.specs.Answer.{verdictOf, given};
 ghost use Rattle.numbers.specs.Numbers.{resultOf};
@@ -13,13 +14,13 @@ use demands::Firsts;
 use fresh::Marks;
 use numbers::ACCEPTED;
 use numbers::Given;
-use occurs::NodeVariables;
 use problem::Assumed;
 use problem::Counts;
 use problem::Places;
 use sets::VariableSet;
 use stack::Heads;
 use stack::Images;
+use variables::NodeVariables;
 
 // What the solver gives back for a problem that was read.
 pub fn solve_read(
@@ -28,7 +29,7 @@ pub fn solve_read(
     output: &mut [u8],
     places: &Places,
     assumed: &Assumed,
-    node_variables: &mut NodeVariables,
+    node_variables: &NodeVariables,
     heads: &mut Heads,
     images: &mut Images,
     made: &mut Made,
@@ -37,7 +38,7 @@ pub fn solve_read(
     firsts: &mut Firsts,
     marks: &mut Marks,
 ) -> Given
-    requires { ⌜ ReadInto (now input) (now places) (now assumed) c ⌝ }
+    requires { ⌜ ReadInto (now input) (now places) (now assumed) c × VariablesKept (problemOf (now input) .nodes) (now «node_variables») ⌝ }
     ensures { λ r. ⌜ resultOf r (now (output .exit))
         ≡ given (verdictOf (problemOf (now (input .entry))) (runOf (problemOf (now (input .entry))))) (now (output .entry)) ⌝ }
 {

@@ -1,22 +1,23 @@
 -- How marks grow: laws that know no tables, and then what visiting a node does, form by form.
-use Prim.Native.Nat.{ℕ, _<_, _^_}
+use Prim.Native.Nat.{ℕ, _/_, _<_}
 use mathlib.Core.Path.{_≡_, refl, sym, _∙_, ap, subst}
 use mathlib.Core.Logic.{_≢_, _⊎_, inl, inr, ⊎-elim}
 use mathlib.Core.Bool.{Bool, true, false, not, _&&_, true≢false}
-use mathlib.Core.List.{List}
+use mathlib.Core.List.{List, [], _∷_}
 use mathlib.Core.Option.{Option, none}
 use lib.ListN.{length, getD}
 use Rattle.sets.specs.Bits.{member, difference, removed}
-use Rattle.sets.proofs.Bits.{by-member, member-difference, member-removed-same, member-removed-other, member-within, subset-member}
-use Rattle.permutation.specs.Swaps.{Swaps, act, inverse, Within}
+use Rattle.sets.proofs.Bits.{by-member, member-difference, member-removed-same, member-removed-other, subset-member}
+use Rattle.permutation.specs.Swaps.{Swaps, act, inverse}
 use Rattle.names.proofs.Equal.{by-eq}
-use Rattle.permutation.proofs.Swaps.{act-inverse, inverse-act, within, within-inverse}
 use Rattle.problem.specs.Problem.{Node, unit-form, atom-form, abstraction-form, pair-form, application-form, suspension-form, formAt, Problem}
+use Rattle.problem.specs.Look.{bareOf}
 use Rattle.run.specs.Meaning.{Side}
 use Rattle.visit.specs.Pairs.{Pair, of-node, of-variable, to-body, to-argument, to-left, to-right, to-variable, PairReached, start, further, Closed}
-use Rattle.visit.specs.Visited.{Marked, Only, added, sentInto, Looked, MarksGrown, Visited}
+use Rattle.visit.specs.Visited.{Marked, Only, added, Looked, Visited, Settled}
+use Rattle.visit.specs.Parts.{Late, withLate, SuspendedAt, Came, LookedOrLate, PartsGrown, LateGrown, PartsVisited, Sent, sent, SwapsAsked}
 use Rattle.visit.proofs.Rows.{row-kept, row-new, row-cases}
-use Rattle.visit.proofs.Sent.{sent-member, member-is-sent}
+use Rattle.visit.proofs.Waiting.{late-same, late-more, late-none, late-further}
 
 -- ---- without tables
 
@@ -32,28 +33,36 @@ pub looked-more : (nodes : List Node) (value : ℕ → Option Side) {Before Afte
 looked-more nodes value h (of-node a n) c = λ v l. h v (c v l)
 looked-more nodes value h (of-variable a X) c = tt
 
+-- What was looked through or waited does so still.
+through-more : (nodes : List Node) (value : ℕ → Option Side) (late late₁ : List ℕ) {Before After : Pair → Type 0}
+    → ((n : ℕ) → Late late n → Late late₁ n) → ((w : Pair) → Before w → After w) → (w : Pair)
+    → LookedOrLate nodes value late Before w → LookedOrLate nodes value late₁ After w
+through-more nodes value late late₁ more h (of-node a n) c = ⊎-elim (λ k. inl (λ v l. h v (k v l))) (λ k. inr (more n k)) c
+through-more nodes value late late₁ more h (of-variable a X) c = tt
+
 module _ {nodes : List Node} {value : ℕ → Option Side} where
-  grown-none : {S Mark : Pair → Type 0} → MarksGrown nodes value S Mark Mark
+  grown-none : {late : List ℕ} {S Mark : Pair → Type 0} → PartsGrown nodes value late S Mark Mark
   grown-none = record { kept = λ w h. h; new = λ w h. inl h }
 
-  grown-more : {S A B C : Pair → Type 0} → MarksGrown nodes value S A B → MarksGrown nodes value S B C → MarksGrown nodes value S A C
-  grown-more {S} {A} {B} {C} g h = record {
+  grown-more : {late late₁ : List ℕ} {S A B C : Pair → Type 0} → ((n : ℕ) → Late late n → Late late₁ n)
+      → PartsGrown nodes value late S A B → PartsGrown nodes value late₁ S B C → PartsGrown nodes value late₁ S A C
+  grown-more {late} {late₁} {S} {A} {B} {C} more g h = record {
     kept = λ w k. h .kept w (g .kept w k);
     new = λ w k. ⊎-elim (earlier w) (λ r. inr r) (h .new w k);
   }
     where
       -- What the first growth marked stays looked through.
-      earlier : (w : Pair) → B w → A w ⊎ (PairReached nodes value S w × Looked nodes value C w)
-      earlier w b = ⊎-elim (λ a. inl a) (λ r. inr (r .0, looked-more nodes value (h .kept) w (r .1))) (g .new w b)
+      earlier : (w : Pair) → B w → A w ⊎ (PairReached nodes value S w × LookedOrLate nodes value late₁ C w)
+      earlier w b = ⊎-elim (λ a. inl a) (λ r. inr (r .0, through-more nodes value late late₁ more (h .kept) w (r .1))) (g .new w b)
 
-  grown-from : {S T A B : Pair → Type 0} → ((w : Pair) → T w → PairReached nodes value S w)
-      → MarksGrown nodes value T A B → MarksGrown nodes value S A B
+  grown-from : {late : List ℕ} {S T A B : Pair → Type 0} → ((w : Pair) → T w → PairReached nodes value S w)
+      → PartsGrown nodes value late T A B → PartsGrown nodes value late S A B
   grown-from h g = record { kept = g .kept; new = λ w k. ⊎-elim (λ a. inl a) (λ r. inr (reached-through h (r .0), r .1)) (g .new w k) }
 
   -- Marks are set first, and then what they lead to.
-  grown-start : {S A B C : Pair → Type 0} → ((w : Pair) → A w → B w)
-      → ((w : Pair) → B w → A w ⊎ (PairReached nodes value S w × Looked nodes value C w)) → MarksGrown nodes value S B C
-      → MarksGrown nodes value S A C
+  grown-start : {late : List ℕ} {S A B C : Pair → Type 0} → ((w : Pair) → A w → B w)
+      → ((w : Pair) → B w → A w ⊎ (PairReached nodes value S w × LookedOrLate nodes value late C w)) → PartsGrown nodes value late S B C
+      → PartsGrown nodes value late S A C
   grown-start up down g = record { kept = λ w k. g .kept w (up w k); new = λ w k. ⊎-elim (down w) (λ r. inr r) (g .new w k) }
 
 -- What a pair of an atom and a node of a form leads to.
@@ -95,11 +104,12 @@ removed-split w b a e =
 
 -- ---- visiting
 
-pub visited-again : (p : Problem) (atoms n : ℕ) (seen variables : List ℕ) → n < length (p .nodes) → difference atoms (getD seen n 0) ≡ 0
-    → Visited (p .nodes) atoms n (Marked p seen variables) (Marked p seen variables)
-visited-again p atoms n seen variables few e = record {
+pub visited-again : (p : Problem) (atoms n : ℕ) (seen variables late : List ℕ) → n < length (p .nodes) → difference atoms (getD seen n 0) ≡ 0
+    → PartsVisited (p .nodes) atoms n (Marked p seen variables) (Marked p seen variables) late late
+visited-again p atoms n seen variables late few e = record {
   grown = λ value. grown-none;
   here = λ a h. (few, subset-member atoms (getD seen n 0) a e h);
+  waits = late-none;
 }
 
 -- Of the atoms that come to node n, those that are new there were marked. The second column, of the variables, is as it was.
@@ -120,6 +130,14 @@ module _ {p : Problem} {atoms n : ℕ} {seen variables : List ℕ} {new : ℕ} {
   abbrev Led : (ℕ → Option Side) → Pair → Type 0
   Led value = PairReached (p .nodes) value (Only atoms n)
 
+  -- The atoms were visited at the node, with these marks and these nodes that wait in the end.
+  abbrev Done : (Pair → Type 0) → List ℕ → List ℕ → Type 0
+  Done After late late₁ = PartsVisited (p .nodes) atoms n Before After late late₁
+
+  -- The atoms that are new were visited at a part.
+  abbrev Part : ℕ → ℕ → (Pair → Type 0) → (Pair → Type 0) → List ℕ → List ℕ → Type 0
+  Part rest m = PartsVisited (p .nodes) rest m
+
   led-here : (value : ℕ → Option Side) (a : ℕ) → member new a ≡ true → Led value (of-node a n)
   led-here value a e = start {w = of-node a n} (refl, difference-left atoms (getD seen n 0) a (ap (λ (w : ℕ). member w a) (sym (t .is-new)) ∙ e))
 
@@ -137,30 +155,37 @@ module _ {p : Problem} {atoms n : ℕ} {seen variables : List ℕ} {new : ℕ} {
       (λ k. (t .few, rw (t .is-seen) (row-new seen n new a (t .in-seen) (ap (λ (w : ℕ). member w a) (t .is-new) ∙ k))))
       (difference-cases atoms (getD seen n 0) a e)
 
-  -- What the new atoms lead to is marked, and nothing else: so the atoms were visited.
-  visited-by : (After : Pair → Type 0) (f : Node) → formAt (p .nodes) n ≡ f
-      → ((value : ℕ → Option Side) → MarksGrown (p .nodes) value (Only atoms n) Now After)
-      → ((a : ℕ) → member new a ≡ true → Follows After a f)
-      → Visited (p .nodes) atoms n Before After
-  visited-by After f e grow follows = record {
+  -- The new atoms at the node are looked through or wait, and nothing else is marked than what they lead to: so the atoms were visited.
+  visited-by : {After : Pair → Type 0} {late late₁ : List ℕ} → ((value : ℕ → Option Side) → PartsGrown (p .nodes) value late₁ (Only atoms n) Now After)
+      → LateGrown (p .nodes) late late₁
+      → ((value : ℕ → Option Side) (a : ℕ) → member new a ≡ true → LookedOrLate (p .nodes) value late₁ After (of-node a n))
+      → Done After late late₁
+  visited-by {After} {late} {late₁} grow wait through = record {
     grown = λ value. grown-start kept (λ w k. ⊎-elim (λ h. inl h) (λ h. inr (found value w h)) (split w k)) (grow value);
     here = λ a h. grow (λ X. none) .kept (of-node a n) (all-here a h);
+    waits = wait;
   }
     where
-      found : (value : ℕ → Option Side) (w : Pair) → Only new n w → Led value w × Looked (p .nodes) value After w
-      found value (of-node a m) (q, h) = (rw q (led-here value a h), rw q (closed-by After a n f e (follows a h)))
+      found : (value : ℕ → Option Side) (w : Pair) → Only new n w → Led value w × LookedOrLate (p .nodes) value late₁ After w
+      found value (of-node a m) (q, h) = (rw q (led-here value a h), rw q (through value a h))
       found value (of-variable a X) h = absurd h
 
-  pub visited-unit : formAt (p .nodes) n ≡ unit-form → Visited (p .nodes) atoms n Before Now
-  visited-unit e = visited-by Now unit-form e (λ value. grown-none) (λ a h. tt)
+  -- What the new atoms lead to by the node's form is marked.
+  followed : {After : Pair → Type 0} {late late₁ : List ℕ} (f : Node) → formAt (p .nodes) n ≡ f
+      → ((value : ℕ → Option Side) → PartsGrown (p .nodes) value late₁ (Only atoms n) Now After) → LateGrown (p .nodes) late late₁
+      → ((a : ℕ) → member new a ≡ true → Follows After a f) → Done After late late₁
+  followed {After} f e grow wait follows = visited-by grow wait (λ value a h. inl (closed-by After a n f e (follows a h)))
 
-  pub visited-atom : {b : ℕ} → formAt (p .nodes) n ≡ atom-form b → Visited (p .nodes) atoms n Before Now
-  visited-atom {b} e = visited-by Now (atom-form b) e (λ value. grown-none) (λ a h. tt)
+  pub visited-unit : {late : List ℕ} → formAt (p .nodes) n ≡ unit-form → Done Now late late
+  visited-unit e = followed unit-form e (λ value. grown-none) late-none (λ a h. tt)
 
-  pub visited-abstraction : {After : Pair → Type 0} {b m rest : ℕ} → formAt (p .nodes) n ≡ abstraction-form b m → rest ≡ removed new b
-      → Visited (p .nodes) rest m Now After → Visited (p .nodes) atoms n Before After
-  visited-abstraction {After} {b} {m} {rest} e is-rest v =
-      visited-by After (abstraction-form b m) e (λ value. grown-from (from value) (v .grown value))
+  pub visited-atom : {late : List ℕ} {b : ℕ} → formAt (p .nodes) n ≡ atom-form b → Done Now late late
+  visited-atom {late} {b} e = followed (atom-form b) e (λ value. grown-none) late-none (λ a h. tt)
+
+  pub visited-abstraction : {After : Pair → Type 0} {late late₁ : List ℕ} {b m rest : ℕ} → formAt (p .nodes) n ≡ abstraction-form b m
+      → rest ≡ removed new b → Part rest m Now After late late₁ → Done After late late₁
+  visited-abstraction {After} {late} {late₁} {b} {m} {rest} e is-rest v =
+      followed (abstraction-form b m) e (λ value. grown-from (from value) (v .grown value)) (v .waits)
       (λ a h d. v .here a (rw is-rest (member-removed-other new b a d ∙ h)))
     where
       from : (value : ℕ → Option Side) (w : Pair) → Only rest m w → Led value w
@@ -169,10 +194,10 @@ module _ {p : Problem} {atoms n : ℕ} {seen variables : List ℕ} {new : ℕ} {
           rw q (further (led-here value a (k .1)) (to-body e (k .0)))
       from value (of-variable a X) h = absurd h
 
-  pub visited-application : {After : Pair → Type 0} {f m : ℕ} → formAt (p .nodes) n ≡ application-form f m
-      → Visited (p .nodes) new m Now After → Visited (p .nodes) atoms n Before After
-  visited-application {After} {f} {m} e v =
-      visited-by After (application-form f m) e (λ value. grown-from (from value) (v .grown value)) (λ a h. v .here a h)
+  pub visited-application : {After : Pair → Type 0} {late late₁ : List ℕ} {f m : ℕ} → formAt (p .nodes) n ≡ application-form f m
+      → Part new m Now After late late₁ → Done After late late₁
+  visited-application {After} {late} {late₁} {f} {m} e v =
+      followed (application-form f m) e (λ value. grown-from (from value) (v .grown value)) (v .waits) (λ a h. v .here a h)
     where
       from : (value : ℕ → Option Side) (w : Pair) → Only new m w → Led value w
       from value (of-node a i) (q, h) = rw q (further (led-here value a h) (to-argument e))
@@ -188,61 +213,102 @@ module _ {p : Problem} {atoms n : ℕ} {seen variables : List ℕ} {new : ℕ} {
     right value (of-variable a X) h = absurd h
 
     -- Both parts visited, the left one first or the right one first.
-    pub visited-pair : {Between After : Pair → Type 0} → Visited (p .nodes) new x Now Between → Visited (p .nodes) new y Between After
-        → Visited (p .nodes) atoms n Before After
-    visited-pair {Between} {After} v w =
-        visited-by After (pair-form x y) e (λ value. grown-more (grown-from (left value) (v .grown value)) (grown-from (right value) (w .grown value)))
-        (λ a h. (w .grown (λ X. none) .kept (of-node a x) (v .here a h), w .here a h))
+    pub visited-pair : {Between After : Pair → Type 0} {late late₁ late₂ : List ℕ} → Part new x Now Between late late₁
+        → Part new y Between After late₁ late₂ → Done After late late₂
+    visited-pair v w =
+        followed (pair-form x y) e
+        (λ value. grown-more (w .waits .kept) (grown-from (left value) (v .grown value)) (grown-from (right value) (w .grown value)))
+        (late-further (v .waits) (w .waits)) (λ a h. (w .grown (λ X. none) .kept (of-node a x) (v .here a h), w .here a h))
 
-    pub visited-pair-right : {Between After : Pair → Type 0} → Visited (p .nodes) new y Now Between → Visited (p .nodes) new x Between After
-        → Visited (p .nodes) atoms n Before After
-    visited-pair-right {Between} {After} v w =
-        visited-by After (pair-form x y) e (λ value. grown-more (grown-from (right value) (v .grown value)) (grown-from (left value) (w .grown value)))
-        (λ a h. (w .here a h, w .grown (λ X. none) .kept (of-node a y) (v .here a h)))
+    pub visited-pair-right : {Between After : Pair → Type 0} {late late₁ late₂ : List ℕ} → Part new y Now Between late late₁
+        → Part new x Between After late₁ late₂ → Done After late late₂
+    visited-pair-right v w =
+        followed (pair-form x y) e
+        (λ value. grown-more (w .waits .kept) (grown-from (right value) (v .grown value)) (grown-from (left value) (w .grown value)))
+        (late-further (v .waits) (w .waits)) (λ a h. (w .here a h, w .grown (λ X. none) .kept (of-node a y) (v .here a h)))
 
     -- A pair of one node with itself: a second visit would find nothing new.
-    pub visited-twins : {After : Pair → Type 0} → x ≡ y → Visited (p .nodes) new y Now After → Visited (p .nodes) atoms n Before After
-    visited-twins q v = visited-pair (rw q v) (record { grown = λ value. grown-none; here = v .here })
+    pub visited-twins : {After : Pair → Type 0} {late late₁ : List ℕ} → x ≡ y → Part new y Now After late late₁ → Done After late late₁
+    visited-twins q v = visited-pair (rw q v) (record { grown = λ value. grown-none; here = v .here; waits = late-none })
 
-  -- "for a suspension if the atom sent to a is fresh for its variable"
-  pub visited-suspension : {π : Swaps} {X : ℕ} {variables₁ : List ℕ} → formAt (p .nodes) n ≡ suspension-form π X
-      → variables₁ ≡ added variables X (sentInto 32 (act π) new) → Within 32 π → X < p .variables → X < length variables → new < 2 ^ 32
-      → Visited (p .nodes) atoms n Before (Marked p seen₁ variables₁)
-  visited-suspension {π} {X} {variables₁} e is-variables k few-variables in-variables small =
-      visited-by After (suspension-form π X) e (λ value. record { kept = up; new = down value })
-      (λ a h. (few-variables, rw is-variables (row-new variables X sent _ in-variables (sent-back a h))))
+  -- A suspension without swaps: the atoms are asked of its variable as they are.
+  visited-bare : {X : ℕ} {variables₁ late : List ℕ} → formAt (p .nodes) n ≡ suspension-form [] X → variables₁ ≡ added variables X new
+      → X < p .variables → X < length variables → Done (Marked p seen₁ variables₁) late late
+  visited-bare {X} {variables₁} {late} e is-variables few-variables in-variables =
+      followed (suspension-form [] X) e (λ value. record { kept = up; new = down value }) late-none
+      (λ a h. (few-variables, rw is-variables (row-new variables X new a in-variables h)))
     where
-      sent : ℕ
-      sent = sentInto 32 (act π) new
-
-      -- The atom that π sends to a new one is among those sent.
-      sent-back : (a : ℕ) → member new a ≡ true → member sent (act (inverse π) a) ≡ true
-      sent-back a h =
-          member-is-sent 32 (act π) new _ a (within 32 (inverse π) a (within-inverse 32 π k) (member-within 32 new a small h))
-          (act-inverse π a) h
-
       After : Pair → Type 0
       After = Marked p seen₁ variables₁
 
       up : (w : Pair) → Now w → After w
       up (of-node a m) h = h
-      up (of-variable a Y) h = (h .0, rw is-variables (row-kept variables X sent Y a in-variables (h .1)))
+      up (of-variable a Y) h = (h .0, rw is-variables (row-kept variables X new Y a in-variables (h .1)))
 
-      -- A sent atom came from a new one.
-      came : (value : ℕ → Option Side) (a : ℕ) → member sent a ≡ true → Led value (of-variable a X)
-      came value a q =
-          let r : Led value (of-variable (act (inverse π) (act π a)) X) =
-          further (led-here value (act π a) (sent-member 32 (act π) new a q .1)) (to-variable e) in
-          rw inverse-act at r
-
-      down : (value : ℕ → Option Side) (w : Pair) → After w → Now w ⊎ (Led value w × Looked (p .nodes) value After w)
+      down : (value : ℕ → Option Side) (w : Pair) → After w → Now w ⊎ (Led value w × LookedOrLate (p .nodes) value late After w)
       down value (of-node a m) h = inl h
       down value (of-variable a Y) h =
-          ⊎-elim (λ q. inl (h .0, q)) (λ q. inr (rw (q .0) (came value a (q .1)), tt))
-          (row-cases variables X sent Y a in-variables (rw is-variables at (h .1)))
+          ⊎-elim (λ q. inl (h .0, q)) (λ q. inr (rw (q .0) (further (led-here value a (q .1)) (to-variable e)), tt))
+          (row-cases variables X new Y a in-variables (rw is-variables at (h .1)))
 
--- What is visited further on completes the visit that began: the columns are those of the beginning and those of now.
-abbrev pub Onward : Problem → ℕ → ℕ → List ℕ → List ℕ → ℕ → ℕ → List ℕ → List ℕ → Type 0
-Onward p atoms n seen₀ variables₀ more m seen variables =
-    (seen₁ variables₁ : List ℕ) → Visited (p .nodes) more m (Marked p seen variables) (Marked p seen₁ variables₁)
-    → Visited (p .nodes) atoms n (Marked p seen₀ variables₀) (Marked p seen₁ variables₁)
+  -- One that waits is looked through later.
+  visited-late : {late : List ℕ} → SuspendedAt (p .nodes) n → n / 64 < length late → Done Now late (withLate late n)
+  visited-late {late} suspended h = visited-by (λ value. grown-none) (late-more late n h suspended) (λ value a k. inr (late-same late n h))
+
+  -- "for a suspension if the atom sent to a is fresh for its variable"
+  pub visited-suspension : {bare X : ℕ} {π : Swaps} {variables₁ late late₁ : List ℕ} → formAt (p .nodes) n ≡ suspension-form π X
+      → bare ≡ bareOf (formAt (p .nodes) n) → Came bare n X new variables late variables₁ late₁
+      → X < p .variables → X < length variables → n / 64 < length late → Done (Marked p seen₁ variables₁) late late₁
+  visited-suspension {bare} {X} {π} {variables₁} {late} {late₁} e is-bare c few-variables in-variables in-late =
+      by-eq bare 255
+      (λ q. rw (c .waits q .0, c .waits q .1) (visited-late (record { few = t .few; swaps = π; variable = X; form = e }) in-late))
+      (λ d. rw (c .asked d .1) (visited-bare (without-swaps π e d) (c .asked d .0) few-variables in-variables))
+    where
+      -- Where the table has a variable for it, there are no swaps.
+      without-swaps : (ρ : Swaps) → formAt (p .nodes) n ≡ suspension-form ρ X → bare ≢ 255 → formAt (p .nodes) n ≡ suspension-form [] X
+      without-swaps [] q d = q
+      without-swaps (s ∷ ρ) q d = absurd (d (is-bare ∙ ap bareOf q))
+
+-- ---- asking what waits
+
+-- Where all that is marked at nodes is looked through, nothing waits.
+pub looked-settled : {nodes : List Node} {value : ℕ → Option Side} {Mark : Pair → Type 0} → ((w : Pair) → Mark w → Looked nodes value Mark w)
+    → Settled nodes Mark
+looked-settled looked a n X π e h = looked (of-node a n) h _ (to-variable e)
+
+-- Before, what was seen at suspensions had been asked of their variables; then the parts were visited, and what waits was asked.
+module _ {p : Problem} {atoms n : ℕ} {Before : Pair → Type 0} {seen variables late late₁ : List ℕ}
+    (settled : Settled (p .nodes) Before) (none-late : (m : ℕ) → Late late m → ⊥)
+    (v : PartsVisited (p .nodes) atoms n Before (Marked p seen variables) late late₁) where
+  -- What waits are suspensions.
+  pub late-suspended : (m : ℕ) → Late late₁ m → SuspendedAt (p .nodes) m
+  late-suspended m k = ⊎-elim (λ q. absurd (none-late m q)) (λ q. q) (v .waits .new m k)
+
+  module _ {variables₁ : List ℕ} (asked : SwapsAsked p seen (Late late₁) variables variables₁) where
+    abbrev After : Pair → Type 0
+    After = Marked p seen variables₁
+
+    through : (value : ℕ → Option Side) (w : Pair) → Marked p seen variables w → LookedOrLate (p .nodes) value late₁ (Marked p seen variables) w
+        → Looked (p .nodes) value After w
+    through value (of-node a m) b k =
+        ⊎-elim (λ c u l. asked .kept u (c u l))
+        (λ q.
+        let s = late-suspended m q in
+        closed-by After a m (suspension-form (s .swaps) (s .variable)) (s .form) (asked .all _ (sent a m q b (s .form)))) k
+    through value (of-variable a X) b k = tt
+
+    sent-here : (value : ℕ → Option Side) (w : Pair) → Sent p seen (Late late₁) w
+        → Before w ⊎ (PairReached (p .nodes) value (Only atoms n) w × Looked (p .nodes) value After w)
+    sent-here value w (sent a m q b e) =
+        ⊎-elim (λ k. inl (settled a m _ _ e k)) (λ r. inr (further (r .0) (to-variable e), tt)) (v .grown value .new (of-node a m) b)
+
+    pub visited-all : Visited (p .nodes) atoms n Before After
+    visited-all = record {
+      grown = λ value. record {
+        kept = λ w k. asked .kept w (v .grown value .kept w k);
+        new = λ w k.
+            ⊎-elim (λ b. ⊎-elim (λ q. inl q) (λ r. inr (r .0, through value w b (r .1))) (v .grown value .new w b)) (λ q. sent-here value w q)
+            (asked .new w k);
+      };
+      here = λ a h. asked .kept (of-node a n) (v .here a h);
+    }

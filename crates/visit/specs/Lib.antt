@@ -1,2 +1,3 @@
 pub mod Pairs
 pub mod Visited
+pub mod Parts

@@ -7,7 +7,8 @@ use mathlib.Core.List.{List}
 use mathlib.Core.Option.{Option}
 use lib.ListN.{length, getD, set}
 use Rattle.sets.specs.Bits.{member, union, setOf}
-use Rattle.problem.specs.Problem.{Node, Problem}
+use Rattle.permutation.specs.Swaps.{Swaps, act, inverse}
+use Rattle.problem.specs.Problem.{Node, suspension-form, formAt, Problem}
 use Rattle.run.specs.Meaning.{Side}
 use Rattle.visit.specs.Pairs.{Pair, of-node, of-variable, PairReached, Closed}
 
@@ -43,3 +44,8 @@ pub record MarksGrown (nodes : List Node) (value : ℕ → Option Side) (S Befor
 pub record Visited (nodes : List Node) (atoms n : ℕ) (Before After : Pair → Type 0) : Type 0 where
   pub grown : (value : ℕ → Option Side) → MarksGrown nodes value (Only atoms n) Before After
   pub here : (a : ℕ) → member atoms a ≡ true → After (of-node a n)
+
+-- What is marked at suspensions is marked at their variables too, each atom as the one sent to it: nothing is left to ask of them.
+abbrev pub Settled : List Node → (Pair → Type 0) → Type 0
+Settled nodes Mark =
+    (a n X : ℕ) (π : Swaps) → formAt nodes n ≡ suspension-form π X → Mark (of-node a n) → Mark (of-variable (act (inverse π) a) X)

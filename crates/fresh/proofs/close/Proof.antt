@@ -11,19 +11,20 @@ use Rattle.problem.specs.Look.{Standing}
 use Rattle.demands.specs.Demands.{onNodes, onVariables}
 use Rattle.visit.specs.Pairs.{Pair}
 use Rattle.fresh.specs.Marks.{doneIn, SoFar, valueAt, Bound, atomOf, newAt}
+use Rattle.visit.proofs.Growth.{looked-settled}
 use Rattle.fresh.proofs.Closing.{Closing, closing-start, closing-turn, closing-end}
 use Rattle.fresh.proofs.Waiting.{lack, passed-less}
 use Rattle.fresh.proofs.close.Statement.{statement}
 use Rattle.fresh.proofs.close.Tie as tie
 
 abbrev Inv-loop : tie.InvT-loop
-Inv-loop s places bound made values asked₀ marks₀ atoms variables end x₀ asked marks x =
+Inv-loop s places bound made values asked₀ marks₀ atoms variables end x₀ up₀ asked marks x up =
     (x .0 ≤ variables) × (onNodes asked ≡ onNodes asked₀)
     × Closing (problemOf s) (valueAt (problemOf s .atoms) (bound .0) made values)
     (SoFar (problemOf s) asked₀ marks₀) (SoFar (problemOf s) asked marks) (doneIn marks)
 
 abbrev μ-loop : tie.MeasureT-loop
-μ-loop s places bound made values asked₀ marks₀ atoms variables end x₀ asked marks x = lack variables (doneIn marks)
+μ-loop s places bound made values asked₀ marks₀ atoms variables end x₀ up₀ asked marks x up = lack variables (doneIn marks)
 
 -- ---- at the start
 
@@ -78,8 +79,8 @@ module _ (c : tie.Else1 Inv-loop μ-loop) where
 
 -- ---- what is to be shown, in the code's order
 
-cast-t12 : tie.Need-cast-t12 Inv-loop μ-loop
-cast-t12 c = omega (arith, few-variables (c .before))
+cast-t14 : tie.Need-cast-t14 Inv-loop μ-loop
+cast-t14 c = omega (arith, few-variables (c .before))
 
 loop-holds : tie.Need-loop-holds Inv-loop μ-loop
 loop-holds c =
@@ -94,17 +95,18 @@ next-requires c κs =
 
 pass-on-requires : tie.Need-pass-on-requires Inv-loop μ-loop
 pass-on-requires c κs =
-    let one = c .before .before in
+    let one = c .before .before .before .before in
     let begun = start one in
     let there = bound-values begun .nodes (X one) (waits one .0) in
-    ((stands begun, all-atoms begun), ((omega (arith, here one, few-variables begun), there), waits one .1))
+    let settled = looked-settled (turn one .loop .inv .2 .looked) in
+    ((stands begun, all-atoms begun), ((omega (arith, here one, few-variables begun), there), (waits one .1, settled)))
 
 loop-less : tie.Need-loop-less Inv-loop μ-loop
-loop-less c = passed-less _ (here (c .before .before .before)) (c .pass-on .ensures)
+loop-less c = passed-less _ (here (c .before .before .before .before .before)) (c .pass-on .ensures)
 
 loop-again : tie.Need-loop-again Inv-loop μ-loop
 loop-again c =
-    let one = c .before .before .before in
+    let one = c .before .before .before .before .before in
     let begun = start one in
     let inv = turn one .loop .inv in (
       omega (arith, here one),
@@ -129,7 +131,7 @@ close-spec =
     (tie.spec
     Inv-loop
     μ-loop
-    cast-t12
+    cast-t14
     loop-holds
     next-requires
     pass-on-requires

@@ -3,8 +3,9 @@ use Prim.Native.Nat.{ℕ, _<_, _^_}
 use native.Mathlib.Omega.{arith}
 use borrow.Author.Needs.{needs}
 use mathlib.Core.Path.{_≡_}
-use mathlib.Core.List.{List}
+use mathlib.Core.List.{List, []}
 use lib.ListN.{length, getD}
+use lib.Seq.{getD-set-other}
 use Rattle.permutation.specs.Table.{image}
 use Rattle.problem.specs.Problem.{Problem}
 use Rattle.problem.specs.Held.{problemOf}
@@ -101,12 +102,13 @@ visit-requires : tie.Need-visit-requires
 visit-requires c κs =
     let here = c .before .before in
     let pre = start (found here) .pre in
-    (pre .0 .0, rw (is-node here) (pre .1 .0 .1))
+    let seen-kept = getD-set-other (marks (found here)) 1 0 (recorded here .add-atoms .last .0) [] (λ q. omega arith) in
+    ((pre .0 .0, rw (is-node here) (pre .1 .0 .1)), rw seen-kept (pre .1 .1 .1))
 
 returns : tie.Need-returns
 returns c =
     let here = c .before .before .before in
-    let waits = start (found here) .pre .1 .1 in
+    let waits = start (found here) .pre .1 .1 .0 in
     passed-on (two-marks (found here)) (in-done here) (done-word (found here)) (new-word (found here)) waits
     (is-new (found here)) (is-done here) (rw (← is-sent here, ← is-node here) (c .visit .ensures))
 

@@ -5,12 +5,14 @@ use borrow.Author.Needs.{needs}
 use borrow.Author.Tests.{eqb-true}
 use mathlib.Core.Path.{_≡_, refl, sym, _∙_, ap}
 use mathlib.Core.List.{List, []}
+use mathlib.Core.Option.{none}
 use lib.ListN.{length, getD}
 use lib.Seq.{getD-set-same, getD-set-other}
 use Rattle.problem.specs.Problem.{Problem}
 use Rattle.problem.specs.Held.{problemOf}
 use Rattle.problem.specs.Look.{Standing}
 use Rattle.demands.specs.Demands.{onNodes, onVariables}
+use Rattle.visit.proofs.Growth.{looked-settled}
 use Rattle.fresh.proofs.Beginning.{Beginning, beginning-start, beginning-more, beginning-skip, beginning-end}
 use Rattle.fresh.proofs.visit_demanded.Statement.{statement}
 use Rattle.fresh.proofs.visit_demanded.Tie as tie
@@ -101,7 +103,7 @@ index-1-visit c = search needs
 visit-requires : tie.Need-visit-requires Inv-loop μ-loop
 visit-requires c κs =
     let in-loop = in-turn (c .before .before .before .before) in
-    (stands (start in-loop), few in-loop)
+    ((stands (start in-loop), few in-loop), looked-settled (turn in-loop .loop .inv .2 .looked (λ X. none)))
 
 loop-less-2 : tie.Need-loop-less-2 Inv-loop μ-loop
 loop-less-2 c = search needs

@@ -53,14 +53,14 @@ module _ (c : tie.After-lowest Inv-loop μ-loop) where
 
   -- Once its value's set is joined, it is looked through.
   goes-on : (w : ℕ) → w ≡ behind (start .args .made .now) sets x
-      → Looking (start .args .bound .0) (start .args .made .now) sets (c .before .before .before .before .before .variables .result .0)
+      → Looking (start .args .bound .0) (start .args .made .now) sets (c .before .before .before .before .before .of-node .result .0)
       (removed (turn .loop .waiting .0) x) (union (turn .loop .reach .0) w)
   goes-on = looking-more sets (turn .loop .inv) unseen x (c .before .before .before .intersection .ensures) some-unseen (c .lowest .ensures)
 
 -- ---- what is to be shown, in the code's order
 
-variables-requires : tie.Need-variables-requires Inv-loop μ-loop
-variables-requires c κs = c .pre .0
+of-node-requires : tie.Need-of-node-requires Inv-loop μ-loop
+of-node-requires c κs = c .pre .0
 
 loop-holds : tie.Need-loop-holds Inv-loop μ-loop
 loop-holds c = looking-none (c .before .args .node-variables .now) (omega arith)
@@ -76,7 +76,7 @@ returns c =
     let at-unseen = c .before .before in
     let at-loop = at-unseen .before in
     let none-unseen = sym (c .before .is-empty .ensures) ∙ c .if1 .taken in
-    rw (← at-loop .before .variables .ensures)
+    rw (← at-loop .before .of-node .ensures)
     (looking-all (at-loop .before .before .args .node-variables .now) (at-loop .loop .inv) _ (at-unseen .intersection .ensures) none-unseen)
 
 lowest-requires : tie.Need-lowest-requires Inv-loop μ-loop
@@ -88,8 +88,8 @@ without-requires c κs = search needs
 node-of-requires : tie.Need-node-of-requires Inv-loop μ-loop
 node-of-requires c κs = small (c .before)
 
-variables-requires-2 : tie.Need-variables-requires-2 Inv-loop μ-loop
-variables-requires-2 c κs =
+of-node-requires-2 : tie.Need-of-node-requires-2 Inv-loop μ-loop
+of-node-requires-2 c κs =
     let at-x = c .before .before in
     rw (c .node-of .ensures) (start at-x .pre .1 (x at-x) (is-bound at-x))
 
@@ -102,7 +102,7 @@ loop-less c = rw (c .before .before .before .without .ensures) (less (c .before 
 loop-again : tie.Need-loop-again Inv-loop μ-loop
 loop-again c =
     let at-x = c .before .before .before .before in
-    let is-behind = c .before .variables2 .ensures ∙ ap (λ n. getD (sets at-x) n 0) (c .before .before .node-of .ensures) in
+    let is-behind = c .before .of-node2 .ensures ∙ ap (λ n. getD (sets at-x) n 0) (c .before .before .node-of .ensures) in
     rw (c .before .before .before .without .ensures, c .union .ensures) (goes-on at-x _ is-behind)
 
 pub reaches-spec : {M : Type 1} → statement M
@@ -111,7 +111,7 @@ reaches-spec =
     (tie.spec
     Inv-loop
     μ-loop
-    variables-requires
+    of-node-requires
     loop-holds
     intersection-requires
     is-empty-requires
@@ -119,7 +119,7 @@ reaches-spec =
     lowest-requires
     without-requires
     node-of-requires
-    variables-requires-2
+    of-node-requires-2
     union-requires
     loop-less
     loop-again)

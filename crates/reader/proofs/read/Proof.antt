@@ -1,11 +1,9 @@
 -- `reader::read`. Too long, no good head, a head that is cut, and a good head: each way is a law of `Opened`.
 use Prim.Native.Nat.{ℕ}
 use native.Mathlib.Omega.{arith}
-use mathlib.Core.Path.{_≡_, refl, sym, _∙_, ap}
+use mathlib.Core.Path.{_≡_, refl, sym, _∙_}
 use mathlib.Core.List.{List}
-use lib.ListN.{length, length-drop}
 use Rattle.field.specs.Field.{Bytes}
-use Rattle.field.proofs.Standing.{tail-part}
 use Rattle.problem.specs.Reader.{started}
 use Rattle.problem.specs.Told.{countsOf}
 use Rattle.reader.specs.Tables.{ReaderTables, readerTables, setsCleared}
@@ -22,54 +20,10 @@ module _ (c : tie.After-shared-slice-known) where
   input = c .before .args .s .now
 
   abbrev lent : ReaderTables
-  lent = readerTables (c .before .args .places .now) (c .before .args .assumed .now)
+  lent = readerTables (c .before .args .places .now) (c .before .args .assumed .now) (c .before .args .node-variables .now)
 
   bytes : Bytes input
   bytes i = c .shared-slice-known .given i .fits
-
-give-requires : tie.Need-give-requires
-give-requires c κs = search needs
-
-returns : tie.Need-returns
-returns c =
-    let at-input = c .before .before in
-    rw (c .give .ensures) (too-long (input at-input) (lent at-input) (bytes at-input) (c .before .if1 .taken))
-
-opened-requires : tie.Need-opened-requires
-opened-requires c κs = search needs
-
-enum-told : tie.Need-enum-told
-enum-told c = search needs
-
-enum-told-2 : tie.Need-enum-told-2
-enum-told-2 c = search needs
-
-give-requires-2 : tie.Need-give-requires-2
-give-requires-2 c κs = search needs
-
-give-requires-3 : tie.Need-give-requires-3
-give-requires-3 c κs = search needs
-
-returns-2 : tie.Need-returns-2
-returns-2 c =
-    let at-none = c .before in
-    let at-opened = at-none .before .before in
-    let at-if1 = at-opened .before in
-    let at-input = at-if1 .before in
-    rw (c .give2 .ensures)
-    (headless (input at-input) (lent at-input) (bytes at-input) (at-if1 .if1 .left) (sym (at-opened .opened .ensures) ∙ at-none .enum-told .given .1))
-
-returns-3 : tie.Need-returns-3
-returns-3 c =
-    let at-cut = c .before in
-    let at-opened = at-cut .before .before in
-    let at-if1 = at-opened .before in
-    let at-input = at-if1 .before in
-    rw (c .give3 .ensures)
-    (cut-open (input at-input) (lent at-input) (bytes at-input) (at-if1 .if1 .left) (sym (at-opened .opened .ensures) ∙ at-cut .enum-told2 .given .1))
-
-enum-known-o : tie.Need-enum-known-o
-enum-known-o c = search needs
 
 -- The head is good: its atoms, its variables and its step limit.
 module _ (c : tie.After-o) where
@@ -91,29 +45,63 @@ module _ (c : tie.After-o) where
   the-head : GoodHead (input at-input) atoms variables limit
   the-head = good-head (input at-input) atoms variables limit the-opening
 
+give-requires : tie.Need-give-requires
+give-requires c κs = search needs
+
+returns : tie.Need-returns
+returns c =
+    let at-input = c .before .before in
+    rw (c .give .ensures) (too-long (input at-input) (lent at-input) (bytes at-input) (c .before .if1 .taken))
+
+opened-requires : tie.Need-opened-requires
+opened-requires c κs = search needs
+
+enum-told : tie.Need-enum-told
+enum-told c = search needs
+
+give-requires-2 : tie.Need-give-requires-2
+give-requires-2 c κs = search needs
+
+enum-told-2 : tie.Need-enum-told-2
+enum-told-2 c = search needs
+
+give-requires-3 : tie.Need-give-requires-3
+give-requires-3 c κs = search needs
+
+enum-known-o : tie.Need-enum-known-o
+enum-known-o c = search needs
+
 clear-requires : tie.Need-clear-requires
 clear-requires c κs = omega (arith, c .clear-arg .given .0 .1, the-head (c .before .before) .few-variables)
-
-sub-fields : tie.Need-sub-fields
-sub-fields c = the-head (c .before .before .before) .nine
-
-part-fields-start : tie.Need-part-fields-start
-part-fields-start c = the-head (c .before .before .before) .nine
-
-part-fields-end : tie.Need-part-fields-end
-part-fields-end c = search needs
 
 fields-requires : tie.Need-fields-requires
 unfolding countsOf started
 fields-requires c κs =
     let at-o = c .before .before .before .before .before .before in
-    let s = input (at-input at-o) in
-    let l = ap length (tail-part s 9) ∙ length-drop 9 s in
     record {
       nothing = refl;
       readable = the-head at-o .start-readable (bytes (at-input at-o));
-      short = omega (arith, l, the-head at-o .nine, at-o .before .before .before .if1 .left);
+      nine = the-head at-o .nine;
+      short = at-o .before .before .before .if1 .left;
     }
+
+returns-2 : tie.Need-returns-2
+returns-2 c =
+    let at-none = c .before in
+    let at-opened = at-none .before .before in
+    let at-if1 = at-opened .before in
+    let at-input = at-if1 .before in
+    rw (c .give2 .ensures)
+    (headless (input at-input) (lent at-input) (bytes at-input) (at-if1 .if1 .left) (sym (at-opened .opened .ensures) ∙ at-none .enum-told .given .1))
+
+returns-3 : tie.Need-returns-3
+returns-3 c =
+    let at-cut = c .before in
+    let at-opened = at-cut .before .before in
+    let at-if1 = at-opened .before in
+    let at-input = at-if1 .before in
+    rw (c .give3 .ensures)
+    (cut-open (input at-input) (lent at-input) (bytes at-input) (at-if1 .if1 .left) (sym (at-opened .opened .ensures) ∙ at-cut .enum-told2 .given .1))
 
 returns-4 : tie.Need-returns-4
 unfolding setsCleared
@@ -121,7 +109,7 @@ returns-4 c =
     let at-o = c .before .before .before .before .before .before .before in
     let at-start = at-input at-o in
     well-opened (input at-start) (lent at-start) (bytes at-start) (at-o .before .before .before .if1 .left) _ _ (c .fields .result) (the-opening at-o)
-    (rw (tail-part (input at-start) 9, c .before .before .before .before .clear .ensures) at (c .fields .ensures))
+    (rw (c .before .before .before .before .clear .ensures) at (c .fields .ensures))
 
 pub read-spec : {M : Type 1} → statement M
 read-spec =
@@ -136,9 +124,6 @@ read-spec =
     give-requires-3
     enum-known-o
     clear-requires
-    sub-fields
-    part-fields-start
-    part-fields-end
     fields-requires
     returns-2
     returns-3

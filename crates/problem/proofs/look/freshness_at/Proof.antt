@@ -1,62 +1,34 @@
--- `look::freshness_at`: what stands at the place, read there byte by byte.
-use native.Mathlib.Omega.{arith}
-use mathlib.Core.Path.{sym, _∙_}
-use Rattle.problem.specs.Reader.{freshness}
-use Rattle.problem.specs.Held.{ItemStands}
-use Rattle.problem.specs.Look.{freshnessNow}
-use Rattle.problem.proofs.Located.{freshness-at}
+-- `look::freshness_at`: what the table has for the freshness field.
+use mathlib.Core.Path.{_∙_}
+use Rattle.problem.proofs.Kept.{freshness-kept}
 use borrow.Author.Needs.{needs}
 use Rattle.problem.proofs.look.freshness_at.Statement.{statement}
 use Rattle.problem.proofs.look.freshness_at.Tie as tie
 
--- The freshness field stands at the offset that was read.
-here : (c : tie.After-wide)
-    → let a = c .before .before .before .args in
-    let d = freshnessNow (a .s .now) (a .k) in
-    ItemStands (a .s .now) (c .wide .result) (freshness (d .atom) (d .node))
-here c = rw (c .wide .ensures) (c .before .before .before .pre .stands)
+add-w : tie.Need-add-w
+add-w c = search needs
 
-mul-wide : tie.Need-mul-wide
-mul-wide c = search needs
+mul-w : tie.Need-mul-w
+mul-w c = search needs
 
-index-1-wide : tie.Need-index-1-wide
-index-1-wide c = search needs
+element-copy-out-w : tie.Need-element-copy-out-w
+element-copy-out-w c = search needs
 
-index-2-wide : tie.Need-index-2-wide
-index-2-wide c = search needs
+first-byte-requires : tie.Need-first-byte-requires
+first-byte-requires c κs = search needs
 
-wide-requires : tie.Need-wide-requires
-wide-requires c κs = search needs
-
-add-two : tie.Need-add-two
-add-two c = omega (arith, freshness-at (here c) .0)
-
-two-requires : tie.Need-two-requires
-two-requires c κs = omega (arith, freshness-at (here c) .0)
-
-add-t8 : tie.Need-add-t8
-add-t8 c = omega (arith, freshness-at (here (c .before)) .0)
-
-shared-slice-read-t13 : tie.Need-shared-slice-read-t13
-shared-slice-read-t13 c = omega (arith, freshness-at (here (c .before .before)) .0)
+middle-two-requires : tie.Need-middle-two-requires
+middle-two-requires c κs = search needs
 
 returns : tie.Need-returns
 returns c =
-    let h = freshness-at (here (c .before .before)) in
-    let a = sym (h .1) in
-    let n = c .before .two .ensures ∙ sym (h .2) in
+    let at-known = c .before .before .before in
+    let h = freshness-kept (λ i. at-known .shared-slice-known .given i .fits) (at-known .before .pre .kept) in
+    let a = c .before .first-byte .ensures ∙ h .0 in
+    let n = c .middle-two .ensures ∙ h .1 in
     (λ i. record { atom = record { 0 = a i }; node = record { 0 = n i } })
 
 pub freshness-at-spec : {M : Type 1} → statement M
 freshness-at-spec =
     tie.close
-    (tie.spec
-    mul-wide
-    index-1-wide
-    index-2-wide
-    wide-requires
-    add-two
-    two-requires
-    add-t8
-    shared-slice-read-t13
-    returns)
+    (tie.spec add-w mul-w element-copy-out-w first-byte-requires middle-two-requires returns)

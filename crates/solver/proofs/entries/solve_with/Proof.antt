@@ -1,6 +1,6 @@
 -- `solve_with` meets its contract: the reader's refusals are given back, and a problem is solved.
 use borrow.Author.Needs.{needs}
-use Rattle.reader.proofs.Given.{read-into}
+use Rattle.reader.proofs.Given.{read-into, sets-kept}
 use Rattle.solver.proofs.Reading.{solve-refused, solve-read}
 use Rattle.solver.proofs.entries.solve_with.Statement.{statement}
 use Rattle.solver.proofs.entries.solve_with.Tie as tie
@@ -18,7 +18,8 @@ solve-read-requires : tie.Need-solve-read-requires
 solve-read-requires c κs =
     let at-problem = c .before .before .before .before .before .before .before .before .before .before .before .before in
     let at-read = at-problem .before .before in
-    read-into _ _ (at-read .read .ensures) (at-problem .reading2 .given .1)
+    let told = at-problem .reading2 .given .1 in
+    (read-into _ _ _ (at-read .read .ensures) told, sets-kept _ _ _ (at-read .read .ensures) told)
 
 returns : tie.Need-returns
 returns c =

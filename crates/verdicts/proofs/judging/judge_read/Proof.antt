@@ -18,7 +18,7 @@ use Rattle.verdicts.proofs.judging.judge_read.Tie as tie
 -- Where the run has ended.
 module _ (c : tie.After-run-read) where
   abbrev all-variables : tie.After-below
-  all-variables = c .before .before .before .before .before .before .before .before .before
+  all-variables = c .before .before .before .before .before .before .before .before
 
   abbrev start : tie.Start
   start = all-variables .before .before
@@ -29,7 +29,7 @@ module _ (c : tie.After-run-read) where
   -- It was the judge's run, whatever the tables of bindings held: every variable was protected.
   judges : (t : Bindings) → runFrom problem (member (all-variables .below .result .0)) (bindingsOf (problem .atoms) t 0) ≡ judgedRun problem
   judges t =
-      let readable = start .pre .standing .readable in
+      let readable = start .pre .0 .standing .readable in
       judge-run problem readable (member (all-variables .below .result .0)) t
       (λ X l. ap (λ (w : ℕ). member w X) (all-variables .below .ensures) ∙ all-protected problem readable X l)
 
@@ -41,8 +41,8 @@ empty-requires c κs = search needs
 
 run-read-requires : tie.Need-run-read-requires
 run-read-requires c κs =
-    let at-start = c .before .before .before .before .before .before .before .before .before .before in
-    ((at-start .pre .standing, at-start .pre .counts), founded-none _ _ (c .empty .ensures))
+    let (read, kept) = c .before .before .before .before .before .before .before .before .before .pre in
+    ((read .standing, read .counts, kept), founded-none _ _ (c .empty .ensures))
 
 returns : tie.Need-returns
 returns c =
@@ -66,7 +66,7 @@ judged-requires : tie.Need-judged-requires
 judged-requires c κs =
     let at-accepted = c .before .before .before .before in
     let at-run = at-accepted .before .before .before .before in
-    (start at-run .pre, (_, _, at-run .run-read .ensures .accepted (at-accepted .if2 .left) .0))
+    (start at-run .pre .0, (_, _, at-run .run-read .ensures .accepted (at-accepted .if2 .left) .0))
 
 returns-3 : tie.Need-returns-3
 returns-3 c =

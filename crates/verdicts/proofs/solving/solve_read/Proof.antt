@@ -15,22 +15,22 @@ use Rattle.verdicts.proofs.solving.solve_read.Tie as tie
 -- Where the run has ended.
 module _ (c : tie.After-run-read) where
   abbrev start : tie.Start
-  start = c .before .before .before .before .before .before .before .before .before .before .before
+  start = c .before .before .before .before .before .before .before .before .before .before
 
   abbrev problem : Problem
   problem = problemOf (start .args .input .now)
 
   -- It was the solver's run, whatever the tables of bindings held.
   solvers : (t : Bindings) → runFrom problem (member (start .args .c .protected .0)) (bindingsOf (problem .atoms) t 0) ≡ runOf problem
-  solvers t = solver-run problem (start .pre .standing .readable) (member (start .args .c .protected .0)) t (λ X l. start .pre .protected X)
+  solvers t = solver-run problem (start .pre .0 .standing .readable) (member (start .args .c .protected .0)) t (λ X l. start .pre .0 .protected X)
 
 empty-requires : tie.Need-empty-requires
 empty-requires c κs = search needs
 
 run-read-requires : tie.Need-run-read-requires
 run-read-requires c κs =
-    let at-start = c .before .before .before .before .before .before .before .before .before .before in
-    ((at-start .pre .standing, at-start .pre .counts), founded-none _ _ (c .empty .ensures))
+    let (read, kept) = c .before .before .before .before .before .before .before .before .before .pre in
+    ((read .standing, read .counts, kept), founded-none _ _ (c .empty .ensures))
 
 returns : tie.Need-returns
 returns c =
@@ -42,7 +42,7 @@ conclude-requires : tie.Need-conclude-requires
 conclude-requires c κs =
     let at-accepted = c .before .before .before .before .before in
     let at-run = at-accepted .before .before in
-    (start at-run .pre, at-run .run-read .ensures .accepted (at-accepted .if1 .left) .0)
+    (start at-run .pre .0, at-run .run-read .ensures .accepted (at-accepted .if1 .left) .0)
 
 same-length : tie.Need-same-length
 same-length c = search needs

@@ -1,0 +1,4 @@
+pub mod Leading
+pub mod Taking
+pub mod Underway
+pub mod Descending
