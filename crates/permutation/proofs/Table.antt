@@ -329,7 +329,8 @@ unfolding inverted
 image-inverted-place P a h = image-tabulate (length P) (λ b. place b P) a h
 
 -- The first place that holds an atom is the one that the inverse tells, and without one it tells 0.
-pub first-place : (P : Table) (a i : ℕ) → a < length P → i < length P → image P i ≡ a → ((k : ℕ) → k < i → image P k ≢ a) → i ≡ image (inverted P) a
+pub first-place : (P : Table) (a i : ℕ) → a < length P → i < length P → image P i ≡ a → ((k : ℕ) → k < i → image P k ≢ a)
+    → i ≡ image (inverted P) a
 first-place P a i h l e n =
     let f : place a P ≤ i = rw e at (place-first P i i l) in
     let g : getD P (place a P) i ≡ a = rw e at (place-holds P i i l) in

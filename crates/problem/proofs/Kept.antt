@@ -76,7 +76,8 @@ module _ {s : List ℕ} {k : ℕ} {i : Item} (b : Bytes s) (w : ItemKept s k i) 
   tag-here : (tag : ℕ) → w .stands .tag ≡ tag → tagIn (eight (drop (w .place) s)) ≡ tag
   tag-here tag e = field-tag (drop (w .place) s) from-here (w .stands .stands) ∙ e
 
-  kept-last-two : (tag : ℕ) → w .stands .tag ≡ tag → eqb tag 0x15 ≡ false → 4 ≤ length (w .stands .body) → lastTwoIn k ≡ word (w .stands .body) 2
+  kept-last-two : (tag : ℕ) → w .stands .tag ≡ tag → eqb tag 0x15 ≡ false → 4 ≤ length (w .stands .body)
+      → lastTwoIn k ≡ word (w .stands .body) 2
   kept-last-two tag e n h =
       let k-is : k ≡ eight (drop (w .place) s) = w .word ∙ rw (tag-here tag e, n) in
       ap lastTwoIn k-is ∙ field-last-two (drop (w .place) s) from-here (w .stands .stands) h
@@ -87,6 +88,10 @@ module _ {s : List ℕ} {k : ℕ} {i : Item} (b : Bytes s) (w : ItemKept s k i) 
       let k-is : k ≡ withPlace (w .place) (eight (drop (w .place) s)) = w .word ∙ rw (tag-here 0x15 e) in
       omega arith
 
+-- Of a tag with one length only, that length.
+pub one-length : (tag n m : ℕ) → (eqb m n ≡ false → lengthFits tag m ≡ false) → lengthFits tag m ≡ true → m ≡ n
+one-length tag n m f e = by-test (eqb m n) (eqb-true m n) (λ q. let x = f q in let y : _≡_ {A = ℕ} 0 1 = cc in absurd (omega arith))
+
 module _ {s : List ℕ} {o : ℕ} {i : Item} (w : ItemStands s o i) where
   said : (tag : ℕ) → w .tag ≡ tag → item tag (w .body) ≡ i
   said tag e = rw e at (w .says)
@@ -94,11 +99,9 @@ module _ {s : List ℕ} {o : ℕ} {i : Item} (w : ItemStands s o i) where
   fitting : (tag : ℕ) → w .tag ≡ tag → lengthFits tag (length (w .body)) ≡ true
   fitting tag e = rw e at (w .fits)
 
-  -- Of a tag with one length only, that length.
-  one-length : (tag n : ℕ) → w .tag ≡ tag → (eqb (length (w .body)) n ≡ false → lengthFits tag (length (w .body)) ≡ false) → length (w .body) ≡ n
-  one-length tag n e f =
-      by-test (eqb (length (w .body)) n) (eqb-true (length (w .body)) n)
-      (λ q. let z : true ≡ false = cc (fitting tag e, f q) in let y : _≡_ {A = ℕ} 0 1 = cc in absurd (omega arith))
+  its-length : (tag n : ℕ) → w .tag ≡ tag → (eqb (length (w .body)) n ≡ false → lengthFits tag (length (w .body)) ≡ false)
+      → length (w .body) ≡ n
+  its-length tag n e f = one-length tag n (length (w .body)) f (fitting tag e)
 
 -- ---- the kinds of node
 
@@ -154,21 +157,21 @@ module _ {s : List ℕ} {k : ℕ} {f : Node} (b : Bytes s) (w : ItemKept s k (no
       go : Kind (w .stands .tag) → formIn k ≡ formTold f
       go (unit-kind e) = rw (kept-tag b w ∙ e) (ap formTold (same-form (said (w .stands) 0x10 e)))
       go (atom-kind e) =
-          let n = one-length (w .stands) 0x11 1 e (λ q. rw q) in
+          let n = its-length (w .stands) 0x11 1 e (λ q. rw q) in
           let a = kept-first-byte b w (omega arith) in
           rw (kept-tag b w ∙ e) ((λ i. Atom (record { 0 = a i })) ∙ ap formTold (same-form (said (w .stands) 0x11 e)))
       go (abstraction-kind e) =
-          let n = one-length (w .stands) 0x12 3 e (λ q. rw q) in
+          let n = its-length (w .stands) 0x12 3 e (λ q. rw q) in
           let a = kept-first-byte b w (omega arith) in
           let m = kept-middle-two b w (omega arith) in
           rw (kept-tag b w ∙ e) ((λ i. Abstraction (record { 0 = a i }) (record { 0 = m i })) ∙ ap formTold (same-form (said (w .stands) 0x12 e)))
       go (pair-kind e) =
-          let n = one-length (w .stands) 0x13 4 e (λ q. rw q) in
+          let n = its-length (w .stands) 0x13 4 e (λ q. rw q) in
           let l = kept-first-two b w (omega arith) in
           let r = kept-last-two b w 0x13 e refl (omega arith) in
           rw (kept-tag b w ∙ e) ((λ i. Pair (record { 0 = l i }) (record { 0 = r i })) ∙ ap formTold (same-form (said (w .stands) 0x13 e)))
       go (application-kind e) =
-          let n = one-length (w .stands) 0x14 4 e (λ q. rw q) in
+          let n = its-length (w .stands) 0x14 4 e (λ q. rw q) in
           let g = kept-first-two b w (omega arith) in
           let m = kept-last-two b w 0x14 e refl (omega arith) in
           rw (kept-tag b w ∙ e) ((λ i. Application (g i) (record { 0 = m i })) ∙ ap formTold (same-form (said (w .stands) 0x14 e)))
@@ -219,7 +222,7 @@ module _ {s : List ℕ} {k : ℕ} {f : Node} (b : Bytes s) (w : ItemKept s k (no
 
 -- ---- a suspension's swaps: they are behind the variable, to the body's end
 
-behind-first : (n : ℕ) (l : List ℕ) → 1 ≤ n → drop 1 (take n l) ≡ take (n - 1) (drop 1 l)
+pub behind-first : (n : ℕ) (l : List ℕ) → 1 ≤ n → drop 1 (take n l) ≡ take (n - 1) (drop 1 l)
 behind-first zero l h = absurd (omega arith)
 behind-first (suc m) [] h = sym (take-nil (suc m - 1))
 behind-first (suc m) (a ∷ l) h = let e : suc m - 1 ≡ m = omega arith in rw e
@@ -316,7 +319,7 @@ equation-kept {s} {k} {e} b w =
     let here = an-equation (eqb tag 0x20) (eqb tag 0x21) (eqb tag 0x22) e _ _ _ _ _ _
     (later-item tag (w .stands .body) (equation e) (w .stands .says) (no-node-equation e)) in
     let is-equation = eqb-true tag 0x20 (here .0) in
-    let n = one-length (w .stands) 0x20 4 is-equation (λ q. rw q) in (
+    let n = its-length (w .stands) 0x20 4 is-equation (λ q. rw q) in (
       kept-first-two b w (omega arith) ∙ ap (λ (x : Equal). x .left) (here .1),
       kept-last-two b w 0x20 is-equation refl (omega arith) ∙ ap (λ (x : Equal). x .right) (here .1),
     )
@@ -327,5 +330,5 @@ freshness-kept {s} {k} {a} {m} b w =
     let tag = w .stands .tag in
     let here = a-freshness (eqb tag 0x20) (eqb tag 0x21) (eqb tag 0x22) a m _ _ _ _ _ _
     (later-item tag (w .stands .body) (freshness a m) (w .stands .says) (no-node-freshness a m)) in
-    let n = one-length (w .stands) 0x21 3 (eqb-true tag 0x21 (here .0)) (λ q. rw q) in
+    let n = its-length (w .stands) 0x21 3 (eqb-true tag 0x21 (here .0)) (λ q. rw q) in
     (kept-first-byte b w (omega arith) ∙ here .1, kept-middle-two b w (omega arith) ∙ here .2)

@@ -23,8 +23,8 @@ use Rattle.bindings.specs.Bindings.{bindingsOf}
 use Rattle.side.specs.Side.{groundIn}
 use Rattle.perform.specs.declared.State.{State}
 use Rattle.perform.specs.Performed.{StepTables, tablesOf}
-use Rattle.quick.specs.Going.{Going, SomeGoing, stateAt, Onward}
-use Rattle.quick.specs.Met.{sideOf, Free, LeadsTo, Facing, MeetTables, leftOf, ruleOf, Met}
+use Rattle.quick.specs.Going.{Going, SomeGoing, stateAt, CarriedOn}
+use Rattle.quick.specs.Met.{sideUnder, FreeAt, LeadsTo, Facing, MeetTables, leftOf, ruleOf, Met}
 use Rattle.quick.specs.declared.Meeting.{Meeting}
 use Rattle.quick.specs.declared.Meeting.the-variants.{Done, Part, Parts}
 use Rattle.quick.specs.declared.Went.{Went}
@@ -33,7 +33,8 @@ use Rattle.quick.proofs.Underway.{few-wait, state-reached, values-there
 -- ---- the equation on top, whose nodes are with the loop
 
 -- The run is on its way with the equation of these nodes, under the images at place n, above the n others.
-pub record Atop (s : List ℕ) (A w L : ℕ) (first : List Binding) (t : StepTables) (number : ℕ) (l r : NodeId) (n steps : ℕ) (state : State) : Type 0 where
+pub record Atop (s : List ℕ) (A w L : ℕ) (first : List Binding) (t : StepTables) (number : ℕ) (l r : NodeId) (n steps : ℕ)
+    (state : State) : Type 0 where
   pub underway : Underway s A w L first (stackWith A number l r (t .stack) n) (t .bindings) (t .sheet) steps state
 
 module _ {s : List ℕ} {places : List ℕ} {A w L : ℕ} {first : List Binding} {t : StepTables} {number : ℕ} {l r : NodeId} {n steps : ℕ} {state : State}
@@ -79,14 +80,14 @@ module _ {s : List ℕ} {places : List ℕ} {A w L : ℕ} {first : List Binding}
           right = record { images = facing .right .images; there = right .there _ nodes (facing .right .there) };
         }
 
-    leads : (R : Table) (m k : NodeId) → length R ≡ problemOf s .atoms → Free s (state .bound .0) k → LeadsTo s (t .bindings) (state .bound .0) m k
-        → resolved (groundIn s (member w)) bs (sideOf R m) ≡ sideOf R k
+    leads : (R : Table) (m k : NodeId) → length R ≡ problemOf s .atoms → FreeAt s (state .bound .0) k → LeadsTo s (t .bindings) (state .bound .0) m k
+        → resolved (groundIn s (member w)) bs (sideUnder R m) ≡ sideUnder R k
     leads R m k long free to = rw all (to .resolves (state .count) (here .keeps) (member w) R long free)
 
     -- They have met.
     module _ {meeting : Meeting} {after : MeetTables}
         (met : Met s A (state .bound .0) number n i j meeting (record { images = t .stack .images; sheet = t .sheet }) after) where
-      step-is : step (groundIn s (member w)) bs (sideOf P l) (sideOf Q r) ≡ ruleOf s (member w) bs (sideOf P i) (sideOf Q j)
+      step-is : step (groundIn s (member w)) bs (sideUnder P l) (sideUnder Q r) ≡ ruleOf s (member w) bs (sideUnder P i) (sideUnder Q j)
       unfolding step
       step-is =
           let facing = atop-facing in
@@ -144,7 +145,7 @@ module _ {s : List ℕ} {places : List ℕ} {A L : ℕ} {before : StepTables} {t
   -- The equation waits again: its nodes are written, and the other tables are as they were.
   pub down-waits : {heads : List (List ℕ)} {after : MeetTables} {z : Went} → after ≡ record { images = t .stack .images; sheet = t .sheet }
       → Renewed n number l r (t .stack .heads) heads × (z ≡ record { waiting = n + 1; steps = steps })
-      → Onward s A L before taken state (tablesOf (stackTables heads (after .images)) (t .bindings) (after .sheet)) z
+      → CarriedOn s A L before taken state (tablesOf (stackTables heads (after .images)) (t .bindings) (after .sheet)) z
   down-waits same waits =
       rw (same, waits .1)
       (record { going = λ w first g. going (waits .0 .stack A (t .stack .images) few-atoms) (h .atop w first g .underway); more = h .more })
@@ -162,7 +163,8 @@ module _ {s : List ℕ} {places : List ℕ} {A L : ℕ} {before : StepTables} {t
     HasMet meeting after = Met s A (state .bound .0) number n i j meeting (record { images = t .stack .images; sheet = t .sheet }) after
 
     module _ (less : steps < L) where
-      onwards : {meeting : Meeting} {after : MeetTables} → HasMet meeting after → (w : ℕ) (first : List Binding) → Going s A w L first before taken state
+      onwards : {meeting : Meeting} {after : MeetTables} → HasMet meeting after → (w : ℕ) (first : List Binding)
+          → Going s A w L first before taken state
           → Underway s A w L first (pending number (leftOf A (after .images) n meeting) ++ stackOf A (met-tables after .stack) n) (t .bindings)
           (after .sheet) (steps + 1) state
       onwards met w first g = met-on (h .standing) (h .all) (h .atop w first g) left right met less
@@ -172,7 +174,7 @@ module _ {s : List ℕ} {places : List ℕ} {A L : ℕ} {before : StepTables} {t
 
       -- The equation is done.
       pub down-done : {after : MeetTables} → HasMet Done after
-          → Onward s A L before taken state (met-tables after) (record { waiting = n; steps = steps + 1 })
+          → CarriedOn s A L before taken state (met-tables after) (record { waiting = n; steps = steps + 1 })
       down-done met = record { going = λ w first g. going refl (onwards met w first g); more = more-steps }
 
       -- It goes on with one part of each side.
@@ -213,13 +215,13 @@ module _ {s : List ℕ} {places : List ℕ} {A L : ℕ} {before : StepTables} {t
 -- ---- one equation after the other
 
 module _ {s : List ℕ} {A L : ℕ} {before : StepTables} {taken : ℕ} {start : State} where
-  pub onward-none : Onward s A L before taken start before (record { waiting = start .waiting; steps = taken })
+  pub onward-none : CarriedOn s A L before taken start before (record { waiting = start .waiting; steps = taken })
   onward-none = record { going = λ w first g. g; more = omega arith }
 
-  module _ {t : StepTables} {r : Went} (h : Onward s A L before taken start t r) where
+  module _ {t : StepTables} {r : Went} (h : CarriedOn s A L before taken start t r) where
     pub onward-some : SomeGoing s A L before taken start → SomeGoing s A L t (r .steps) (stateAt start r)
     onward-some g =
         record { protected = g .protected; first = g .first; going = h .going (g .protected) (g .first) (g .going) }
 
-    pub onward-more : {after : StepTables} {z : Went} → Onward s A L t (r .steps) (stateAt start r) after z → Onward s A L before taken start after z
+    pub onward-more : {after : StepTables} {z : Went} → CarriedOn s A L t (r .steps) (stateAt start r) after z → CarriedOn s A L before taken start after z
     onward-more k = record { going = λ w first g. k .going w first (h .going w first g); more = let m = h .more in let o = k .more in omega arith }

@@ -20,7 +20,7 @@ use Rattle.bindings.specs.Bindings.{Bindings, bindingAt, bindingsOf, imagesOf, 
 use Rattle.bindings.proofs.Bindings.{valueOf-set}
 use Rattle.side.specs.Side.{groundIn, wholeOf}
 use Rattle.side.proofs.Resolving.{after-none, resolved-stop, resolved-on, unbound-told}
-use Rattle.quick.specs.Met.{sideOf, Free, LeadsTo}
+use Rattle.quick.specs.Met.{sideUnder, FreeAt, LeadsTo}
 
 -- The form of which the code tells a variable there is.
 pub bare-form : (v : Node) (X : ℕ) → X ≡ bareOf v → X < 64 → v ≡ suspension-form [] X
@@ -44,12 +44,13 @@ leads-itself {s} {t} {bound} {node} =
     record {
       there = λ n h l. l;
       resolves = λ k keeps f P long free.
-          resolved-stop s f (bindingsOf A t k) (sideOf P node) (length (bindingsOf A t k))
+          resolved-stop s f (bindingsOf A t k) (sideUnder P node) (length (bindingsOf A t k))
           (unbound-told A t k bound keeps (formTold (formNow s (node .0))) free);
     }
 
 -- It leads to the value of the variable X.
-module _ (s : List ℕ) (t : Bindings) (bound X : ℕ) (node r : NodeId) (form : formNow s (node .0) ≡ suspension-form [] X) (is-bound : member bound X ≡ true)
+module _ (s : List ℕ) (t : Bindings) (bound X : ℕ) (node r : NodeId) (form : formNow s (node .0) ≡ suspension-form [] X)
+    (is-bound : member bound X ≡ true)
     (plain : imagesOf (problemOf s .atoms) (t .values) X ≡ identity (problemOf s .atoms)) (value : r .0 ≡ nodeOf (t .made) X) where
   abbrev A : ℕ
   A = problemOf s .atoms
@@ -65,16 +66,16 @@ module _ (s : List ℕ) (t : Bindings) (bound X : ℕ) (node r : NodeId) (form :
     unfolding bindingAt
     valued = valueOf-set A t k bound keeps X ∙ rw (is-bound, plain, value)
 
-    images-stay : under (wholeOf s A P (node .0)) found ≡ sideOf P r
+    images-stay : under (wholeOf s A P (node .0)) found ≡ sideUnder P r
     unfolding wholeOf
     images-stay = rw (form, after-none A P long, ← (ofSwaps-none A), after-none A P long)
 
-    resolves-on : Free s bound r → resolved (groundIn s f) bs (sideOf P node) ≡ sideOf P r
+    resolves-on : FreeAt s bound r → resolved (groundIn s f) bs (sideUnder P node) ≡ sideUnder P r
     unfolding resolved
     resolves-on free =
-        resolved-on s f bs (sideOf P node) (length bs) found (valued-some bs X found valued) (rw form valued)
+        resolved-on s f bs (sideUnder P node) (length bs) found (valued-some bs X found valued) (rw form valued)
         ∙ ap (resolvedIn (length bs - 1) (groundIn s f) bs) images-stay
-        ∙ resolved-stop s f bs (sideOf P r) (length bs - 1) (unbound-told A t k bound keeps (formTold (formNow s (r .0))) free)
+        ∙ resolved-stop s f bs (sideUnder P r) (length bs - 1) (unbound-told A t k bound keeps (formTold (formNow s (r .0))) free)
 
   pub leads-on : LeadsTo s t bound node r
   leads-on = record { there = λ n h l. rw value (h X is-bound); resolves = resolves-on }

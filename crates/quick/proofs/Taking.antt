@@ -24,7 +24,7 @@ use Rattle.stack.specs.InPlace.{leftAt, rightAt, RightSwapped}
 use Rattle.demands.specs.Demands.{Sheet, NodeRaised, VariableRaised}
 use Rattle.side.specs.Side.{groundIn, isBound}
 use Rattle.side.proofs.Resolving.{after-none}
-use Rattle.quick.specs.Met.{sideOf, Facing, MeetTables, leftOf, Taken, Met, Meets}
+use Rattle.quick.specs.Met.{sideUnder, Facing, MeetTables, leftOf, Taken, Met, Meets}
 use Rattle.quick.specs.declared.Meeting.{Meeting}
 use Rattle.quick.specs.declared.Meeting.the-variants.{Leave, Done, Part, Parts}
 
@@ -37,7 +37,7 @@ taken-still e = record { demanded = []; onward = e; below = λ heads. refl; rais
 
 -- "with a equal to b, s against t"
 pub same-abstractions : {A number n : ℕ} {t : MeetTables} {m k : NodeId} {a b : ℕ} → a ≡ b
-    → Taken A number n (abstractions a (sideOf (leftAt A (t .images) n) m) b (sideOf (rightAt A (t .images) n) k)) (Part m k) t t
+    → Taken A number n (abstractions a (sideUnder (leftAt A (t .images) n) m) b (sideUnder (rightAt A (t .images) n) k)) (Part m k) t t
 unfolding abstractions
 same-abstractions {a = a} {b} e = taken-still (rw (eq-eqb a b e))
 
@@ -45,11 +45,11 @@ same-abstractions {a = a} {b} e = taken-still (rw (eq-eqb a b e))
 pub other-abstractions : {A number n : ℕ} {before after : MeetTables} {m k : NodeId} {a b c : ℕ} → A ≤ 32 → a ≢ b
     → c ≡ image (inverted (rightAt A (before .images) n)) a → NodeRaised c (k .0) number (before .sheet) (after .sheet)
     → RightSwapped a b n (before .images) (after .images)
-    → Taken A number n (abstractions a (sideOf (leftAt A (before .images) n) m) b (sideOf (rightAt A (before .images) n) k)) (Part m k) before after
+    → Taken A number n (abstractions a (sideUnder (leftAt A (before .images) n) m) b (sideUnder (rightAt A (before .images) n) k)) (Part m k) before after
 unfolding abstractions
 other-abstractions {A} {n = n} {before} {k = k} {a} {b} few differ is-preimage asked swapped =
     record {
-      demanded = (a, of-side (sideOf (rightAt A (before .images) n) k)) ∷ [];
+      demanded = (a, of-side (sideUnder (rightAt A (before .images) n) k)) ∷ [];
       onward = rw (ne-eqb a b differ, swapped .left A, swapped .right A few);
       below = swapped .below A;
       raised = λ nodes variables ds few-nodes raised. asked .raised a (rightAt A (before .images) n) is-preimage nodes variables ds raised;
@@ -115,7 +115,7 @@ module _ {s : List ℕ} {A bound number n : ℕ} {l r : NodeId} where
   met : {before after : MeetTables} {meeting : Meeting} (v w : Node) → formNow s (l .0) ≡ v → formNow s (r .0) ≡ w
       → isBound bound (formTold v) ≡ false → isBound bound (formTold w) ≡ false
       → ((f : ℕ → Bool) (bs : List Binding) → Taken A number n
-      (rule (groundIn s f) bs (sideOf (leftAt A (before .images) n) l) (sideOf (rightAt A (before .images) n) r)
+      (rule (groundIn s f) bs (sideUnder (leftAt A (before .images) n) l) (sideUnder (rightAt A (before .images) n) r)
       (permuted (problemOf s .atoms) (leftAt A (before .images) n) v) (permuted (problemOf s .atoms) (rightAt A (before .images) n) w)) meeting before after)
       → Met s A bound number n l r meeting before after
   unfolding top
@@ -131,8 +131,8 @@ module _ {s : List ℕ} {A bound number n : ℕ} {l r : NodeId} where
 
   pub met-abstractions : {before after : MeetTables} {a b : ℕ} {m k : NodeId} → formNow s (l .0) ≡ abstraction-form a (m .0)
       → formNow s (r .0) ≡ abstraction-form b (k .0)
-      → Taken A number n (abstractions (image (leftAt A (before .images) n) a) (sideOf (leftAt A (before .images) n) m)
-      (image (rightAt A (before .images) n) b) (sideOf (rightAt A (before .images) n) k)) (Part m k) before after
+      → Taken A number n (abstractions (image (leftAt A (before .images) n) a) (sideUnder (leftAt A (before .images) n) m)
+      (image (rightAt A (before .images) n) b) (sideUnder (rightAt A (before .images) n) k)) (Part m k) before after
       → Met s A bound number n l r (Part m k) before after
   met-abstractions {a = a} {b} {m} {k} p q taken = met (abstraction-form a (m .0)) (abstraction-form b (k .0)) p q refl refl (λ f bs. taken)
 
@@ -141,13 +141,15 @@ module _ {s : List ℕ} {A bound number n : ℕ} {l r : NodeId} where
   met-pairs {m = m} {o} {k} {p} is-left is-right =
       met (pair-form (m .0) (o .0)) (pair-form (k .0) (p .0)) is-left is-right refl refl (λ f bs. taken-still refl)
 
-  met-applications : {t : MeetTables} {h i : ℕ} {m k : NodeId} → formNow s (l .0) ≡ application-form h (m .0) → formNow s (r .0) ≡ application-form i (k .0)
+  met-applications : {t : MeetTables} {h i : ℕ} {m k : NodeId} → formNow s (l .0) ≡ application-form h (m .0)
+      → formNow s (r .0) ≡ application-form i (k .0)
       → eqb h i ≡ true → Met s A bound number n l r (Part m k) t t
   met-applications {h = h} {i} {m} {k} p q e =
       met (application-form h (m .0)) (application-form i (k .0)) p q refl refl (λ f bs. taken-still (rw e))
 
   met-suspensions : {before after : MeetTables} {X : ℕ} → formNow s (l .0) ≡ suspension-form [] X → formNow s (r .0) ≡ suspension-form [] X
-      → member bound X ≡ false → length (leftAt A (before .images) n) ≡ problemOf s .atoms → length (rightAt A (before .images) n) ≡ problemOf s .atoms
+      → member bound X ≡ false → length (leftAt A (before .images) n) ≡ problemOf s .atoms
+      → length (rightAt A (before .images) n) ≡ problemOf s .atoms
       → Taken A number n (goes-on [] [] (map (λ a. (a, of-variable X)) (disagreement (leftAt A (before .images) n) (rightAt A (before .images) n)))) Done
       before after
       → Met s A bound number n l r Done before after

@@ -62,7 +62,8 @@ pub record Underway (s : List ℕ) (A w L : ℕ) (first : List Binding) (es : Li
   pub within : steps ≤ L
 
 module _ {s : List ℕ} {A w L : ℕ} {first : List Binding} {t : StepTables} {steps : ℕ} {state : State} {es : List Equation} where
-  pub underway : stackOf A (t .stack) (state .waiting) ≡ es → Going s A w L first t steps state → Underway s A w L first es (t .bindings) (t .sheet) steps state
+  pub underway : stackOf A (t .stack) (state .waiting) ≡ es → Going s A w L first t steps state
+      → Underway s A w L first es (t .bindings) (t .sheet) steps state
   underway e h =
       record {
         circleless = h .circleless;

@@ -48,6 +48,6 @@ abbrev pub stateAt : State → Went → State
 stateAt state r = record { waiting = r .waiting; bound = state .bound; count = state .count }
 
 -- What going on leaves: from whatever start and under whatever protection, the run is on its way still, no step less is taken, and no binding is made.
-pub record Onward (s : List ℕ) (A L : ℕ) (before : StepTables) (taken : ℕ) (state : State) (after : StepTables) (r : Went) : Type 0 where
+pub record CarriedOn (s : List ℕ) (A L : ℕ) (before : StepTables) (taken : ℕ) (state : State) (after : StepTables) (r : Went) : Type 0 where
   pub going : (w : ℕ) (first : List Binding) → Going s A w L first before taken state → Going s A w L first after (r .steps) (stateAt state r)
   pub more : taken ≤ r .steps

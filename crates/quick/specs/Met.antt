@@ -21,26 +21,26 @@ use Rattle.quick.specs.declared.Meeting.{Meeting}
 use Rattle.quick.specs.declared.Meeting.the-variants.{Leave, Done, Part, Parts}
 
 -- The side of a node under images.
-abbrev pub sideOf : Table → NodeId → Side
-sideOf P n = record { images = P; node = n .0 }
+abbrev pub sideUnder : Table → NodeId → Side
+sideUnder P n = record { images = P; node = n .0 }
 
 -- What stands at the node is no suspension of a bound variable.
-abbrev pub Free : List ℕ → ℕ → NodeId → Type 0
-Free s bound n = isBound bound (formTold (formNow s (n .0))) ≡ false
+abbrev pub FreeAt : List ℕ → ℕ → NodeId → Type 0
+FreeAt s bound n = isBound bound (formTold (formNow s (n .0))) ≡ false
 
 -- Where a node leads: a side of the first node resolves to that of the second under the same images, if nothing is left to resolve there.
 pub record LeadsTo (s : List ℕ) (t : Bindings) (bound : ℕ) (node r : NodeId) : Type 0 where
   pub there : (n : ℕ) → NodesThere n (t .made) bound → node .0 < n → r .0 < n
-  pub resolves : (k : ℕ) → Keeps (t .made) k bound → (f : ℕ → Bool) (P : Table) → length P ≡ problemOf s .atoms → Free s bound r
-      → resolved (groundIn s f) (bindingsOf (problemOf s .atoms) t k) (sideOf P node) ≡ sideOf P r
+  pub resolves : (k : ℕ) → Keeps (t .made) k bound → (f : ℕ → Bool) (P : Table) → length P ≡ problemOf s .atoms → FreeAt s bound r
+      → resolved (groundIn s f) (bindingsOf (problemOf s .atoms) t k) (sideUnder P node) ≡ sideUnder P r
 
 -- Two nodes under the images at place n: each is a side.
 pub record Facing (s : List ℕ) (places : List ℕ) (A n : ℕ) (images : List (List (List ℕ))) (l r : NodeId) : Type 0 where
   pub standing : Standing s places
   pub number : A ≡ problemOf s .atoms
   pub placed : n < mostWaiting
-  pub left : Fits (problemOf s .atoms) (problemOf s .nodes) (sideOf (leftAt A images n) l)
-  pub right : Fits (problemOf s .atoms) (problemOf s .nodes) (sideOf (rightAt A images n) r)
+  pub left : Fits (problemOf s .atoms) (problemOf s .nodes) (sideUnder (leftAt A images n) l)
+  pub right : Fits (problemOf s .atoms) (problemOf s .nodes) (sideUnder (rightAt A images n) r)
 
 -- The tables that a meeting changes.
 pub record MeetTables : Type 0 where
@@ -54,9 +54,9 @@ meetTables images asked firsts = record { images = images; sheet = sheet asked f
 abbrev pub leftOf : ℕ → List (List (List ℕ)) → ℕ → Meeting → List (Side × Side)
 leftOf A images n Leave = []
 leftOf A images n Done = []
-leftOf A images n (Part m k) = (sideOf (leftAt A images n) m, sideOf (rightAt A images n) k) ∷ []
+leftOf A images n (Part m k) = (sideUnder (leftAt A images n) m, sideUnder (rightAt A images n) k) ∷ []
 leftOf A images n (Parts m o k p) =
-    (sideOf (leftAt A images n) m, sideOf (rightAt A images n) k) ∷ (sideOf (leftAt A images n) o, sideOf (rightAt A images n) p) ∷ []
+    (sideUnder (leftAt A images n) m, sideUnder (rightAt A images n) k) ∷ (sideUnder (leftAt A images n) o, sideUnder (rightAt A images n) p) ∷ []
 
 -- A step of the equation at place n is taken there: it goes on with what is left, no variable is bound, what waits below stays, and its demands are raised.
 pub record Taken (A number n : ℕ) (step : Step) (meeting : Meeting) (before after : MeetTables) : Type 0 where
@@ -72,10 +72,10 @@ ruleOf s f bs x y = rule (groundIn s f) bs x y (top (groundIn s f) x) (top (grou
 
 -- The nodes l and r have met: nothing is to be resolved, and the rule's step is taken, whatever is bound or protected.
 pub record Met (s : List ℕ) (A bound number n : ℕ) (l r : NodeId) (meeting : Meeting) (before after : MeetTables) : Type 0 where
-  pub left : Free s bound l
-  pub right : Free s bound r
+  pub left : FreeAt s bound l
+  pub right : FreeAt s bound r
   pub taken : (f : ℕ → Bool) (bs : List Binding)
-      → Taken A number n (ruleOf s f bs (sideOf (leftAt A (before .images) n) l) (sideOf (rightAt A (before .images) n) r)) meeting before after
+      → Taken A number n (ruleOf s f bs (sideUnder (leftAt A (before .images) n) l) (sideUnder (rightAt A (before .images) n) r)) meeting before after
 
 -- What becomes of them: the equation is left and nothing changes, or the step is taken.
 abbrev pub Meets : List ℕ → ℕ → ℕ → ℕ → ℕ → NodeId → NodeId → MeetTables → MeetTables → Meeting → Type 0

@@ -17,8 +17,8 @@ ghost use Rattle.stack.specs.InPlace.{leftAt, rightAt, Renewed};
 ghost use Rattle.bindings.specs.Bindings as bindings;
 ghost use Rattle.demands.specs.Demands.{sheet};
 ghost use Rattle.perform.specs.Performed.{tablesOf};
-ghost use Rattle.quick.specs.Going.{SomeGoing, Onward};
-ghost use Rattle.quick.specs.Met.{sideOf, LeadsTo, Facing, meetTables, Taken, Meets};
+ghost use Rattle.quick.specs.Going.{SomeGoing, CarriedOn};
+ghost use Rattle.quick.specs.Met.{sideUnder, LeadsTo, Facing, meetTables, Taken, Meets};
 ghost use Rattle.quick.specs.declared.Meeting.the-variants.{Leave, Done, Part};
 use bindings::Made;
 use bindings::Values;
@@ -99,8 +99,8 @@ fn abstractions_meet(
     requires { ⌜ (n < pending.mostWaiting) × (atoms ≤ 32) × (a .0 < atoms) × (k .0 < 512)
         × Permuting atoms (leftAt atoms (now images) n) × Permuting atoms (rightAt atoms (now images) n) ⌝ }
     ensures { λ r. ⌜ (r ≡ Part m k) × Taken atoms number n
-        (abstractions (image (leftAt atoms (now (images .entry)) n) (a .0)) (sideOf (leftAt atoms (now (images .entry)) n) m)
-        (image (rightAt atoms (now (images .entry)) n) (b .0)) (sideOf (rightAt atoms (now (images .entry)) n) k)) (Part m k)
+        (abstractions (image (leftAt atoms (now (images .entry)) n) (a .0)) (sideUnder (leftAt atoms (now (images .entry)) n) m)
+        (image (rightAt atoms (now (images .entry)) n) (b .0)) (sideUnder (rightAt atoms (now (images .entry)) n) k)) (Part m k)
         (meetTables (now (images .entry)) (now (asked .entry)) (now (firsts .entry)))
         (meetTables (now (images .exit)) (now (asked .exit)) (now (firsts .exit))) ⌝ }
 {
@@ -260,7 +260,7 @@ fn down(
     requires { ⌜ Standing (now s) (now places) × (atoms ≡ problemOf (now s) .atoms) × (state .waiting ≢ 0) ⌝ }
     requires { ⌜ SomeGoing (now s) atoms limit (tablesOf (pending.stackTables (now heads) (now images))
         (bindings.bindingTables (now made) (now values)) (sheet (now asked) (now firsts))) taken state ⌝ }
-    ensures { λ r. ⌜ Onward (now (s .entry)) atoms limit
+    ensures { λ r. ⌜ CarriedOn (now (s .entry)) atoms limit
         (tablesOf (pending.stackTables (now (heads .entry)) (now (images .entry)))
         (bindings.bindingTables (now (made .entry)) (now (values .entry)))
         (sheet (now (asked .entry)) (now (firsts .entry)))) taken state
@@ -335,7 +335,7 @@ pub fn go(
     requires { ⌜ Standing (now s) (now places) × (atoms ≡ problemOf (now s) .atoms) ⌝ }
     requires { ⌜ SomeGoing (now s) atoms limit (tablesOf (pending.stackTables (now heads) (now images))
         (bindings.bindingTables (now made) (now values)) (sheet (now asked) (now firsts))) taken start ⌝ }
-    ensures { λ r. ⌜ Onward (now (s .entry)) atoms limit
+    ensures { λ r. ⌜ CarriedOn (now (s .entry)) atoms limit
         (tablesOf (pending.stackTables (now (heads .entry)) (now (images .entry)))
         (bindings.bindingTables (now (made .entry)) (now (values .entry)))
         (sheet (now (asked .entry)) (now (firsts .entry)))) taken start

@@ -1,11 +1,11 @@
 -- What the tests of a field's first eight bytes as one number find is just whether the field is whole and has no fault.
-use Prim.Native.Nat.{ℕ, zero, suc, _+_, _*_, _-_, _%_, _≤_, _<_}
+use Prim.Native.Nat.{ℕ, _+_, _*_, _-_, _%_, _≤_, _<_}
 use native.Mathlib.Omega.{arith}
 use mathlib.Core.Path.{_≡_, refl, sym, _∙_, ap}
 use mathlib.Core.Bool.{Bool, true, false, not, _&&_, cond, and-true, and-false}
 use mathlib.Core.List.{List, [], _∷_}
 use lib.ListN.{length, take, drop}
-use lib.Seq.{take-nil, drop-drop}
+use lib.Seq.{drop-drop}
 use lib.Dec.{eqb, leb, ltb}
 use borrow.Author.Tests.{eq-eqb, ne-eqb, lt-ltb, le-leb, lt-leb, eqb-true}
 use Rattle.names.proofs.Equal.{by-eq, by-lt}
@@ -18,6 +18,7 @@ use Rattle.field.proofs.Told.{is-whole}
 use Rattle.field.proofs.Words.{eight-tag, eight-length, eight-key, field-tag, field-length, field-first-byte, field-second-byte}
 use Rattle.field.proofs.Words.{field-first-two, field-middle-two, field-last-two}
 use Rattle.problem.specs.Reader.{Sizes, baseTags, lengthFits, item, room, there, fault}
+use Rattle.problem.proofs.Kept.{behind-first}
 use Rattle.says.specs.Told.{below}
 use Rattle.says.proofs.Saying.{suspended}
 use Rattle.reader.specs.Found.{sizeIfGood, goodSize, unitGood, atomGood, abstractionGood, pairGood, applicationGood}
@@ -57,11 +58,6 @@ one-byte : (s : List ℕ) → length s ≡ 1 → drop 1 s ≡ []
 one-byte [] e = refl
 one-byte (a ∷ []) e = refl
 one-byte (a ∷ c ∷ s) e = absurd (omega arith)
-
-behind-first : (n : ℕ) (l : List ℕ) → 1 ≤ n → drop 1 (take n l) ≡ take (n - 1) (drop 1 l)
-behind-first zero l h = absurd (omega arith)
-behind-first (suc m) [] h = sym (take-nil (suc m - 1))
-behind-first (suc m) (a ∷ l) h = let e : suc m - 1 ≡ m = omega arith in rw e
 
 swaps-are : (t : List ℕ) {tag : ℕ} {body rest : List ℕ} → front t ≡ whole tag body rest → 1 ≤ length body
     → take (length body - 1) (drop 4 t) ≡ drop 1 body

@@ -85,7 +85,8 @@ one-more-set p o f table r row h n k =
     let nodes = p .nodes ++ (f ∷ []) in
     let stay = parts-stay table m (p .atoms) (p .variables) n x (formAt nodes n) (omega (arith, one-more (p .nodes) f)) (r .named-nodes n) in
     by-eq n m
-    (λ e. let y = at-end unit-form (p .nodes) f n e in rw e (getD-set-same table m x 0 row) ∙ (ap (λ g. variablesOf table (formTold g)) (sym y) ∙ sym stay))
+    (λ e. let y = at-end unit-form (p .nodes) f n e in rw e (getD-set-same table m x 0 row) ∙
+    (ap (λ g. variablesOf table (formTold g)) (sym y) ∙ sym stay))
     (λ e.
     let l : n < m = omega (arith, one-more (p .nodes) f) in
     let y = List·getD-append (p .nodes) (f ∷ []) unit-form n l in

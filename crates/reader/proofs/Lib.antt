@@ -1,5 +1,4 @@
 pub mod Keeping
-pub mod Greatest
 pub mod Found
 pub mod Stepping
 pub mod Steps

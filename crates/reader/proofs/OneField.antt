@@ -89,7 +89,8 @@ module _ (known : ℕ → Bool) where
     field-faulty (b ∷ s) tag (suc f) body rest e z h = (rw (e, z), λ t. rw (e, z))
 
     -- A field that is cut.
-    pub cut-field : (s : List ℕ) → 0 < length s → front s ≡ cut → (readOn known p o s ≡ unreadable 3 o) × ((t : ReaderTables) → noteOn known p o s t ≡ t)
+    pub cut-field : (s : List ℕ) → 0 < length s → front s ≡ cut
+        → (readOn known p o s ≡ unreadable 3 o) × ((t : ReaderTables) → noteOn known p o s t ≡ t)
     unfolding fieldsFrom notedFrom
     cut-field [] h e = absurd (omega arith)
     cut-field (b ∷ s) h e = (rw e, λ t. rw e)

@@ -25,7 +25,8 @@ pub none-passed : (s : List ℕ) (o : ℕ) (c : Counts) (places variables : List
     → NodesPassed s o c places variables o (c .nodes) places variables
 none-passed s o c places variables h = record { forward = le-refl o; inside = h; onward = λ head start assumed w. w }
 
-module _ {s : List ℕ} {from : ℕ} {c : Counts} {places₀ variables₀ : List ℕ} {o n : ℕ} {places variables : List ℕ} {r : ℕ} {places' variables' : List ℕ}
+module _ {s : List ℕ} {from : ℕ} {c : Counts} {places₀ variables₀ : List ℕ} {o n : ℕ} {places variables : List ℕ} {r : ℕ}
+    {places' variables' : List ℕ}
     (b : Bytes s) (w : NodesPassed s from c places₀ variables₀ o n places variables)
     (k : NodeStepped (drop o s) o (withNodes c n) places variables r places' variables') where
   here : Bytes (drop o s)
@@ -67,7 +68,8 @@ module _ {s : List ℕ} {from : ℕ} {c : Counts} {places₀ variables₀ : List
 
 -- ---- a field that is none
 
-module _ {s : List ℕ} {head : Counts} {start : ReaderTables} {o : ℕ} {c : Counts} {places assumed variables : List ℕ} {r : ℕ} {places' assumed' : List ℕ}
+module _ {s : List ℕ} {head : Counts} {start : ReaderTables} {o : ℕ} {c : Counts} {places assumed variables : List ℕ} {r : ℕ}
+    {places' assumed' : List ℕ}
     (b : Bytes s) (w : Onward s head start o c (readerTables places assumed variables))
     (k : OtherStepped (drop o s) o c places assumed r places' assumed') where
   from-here : Bytes (drop o s)

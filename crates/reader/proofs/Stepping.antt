@@ -9,6 +9,7 @@ use lib.Dec.{eqb, leb, ltb}
 use borrow.Author.Tests.{eqb-true, ltb-true, leb-true}
 use Rattle.names.proofs.Equal.{by-eq}
 use Rattle.sets.proofs.Bits.{by-test}
+use Rattle.problem.proofs.Kept.{one-length}
 use Rattle.field.specs.Field.{Field, cut, whole, front, byte, Bytes}
 use Rattle.field.specs.Word.{eight, tagIn, lengthIn}
 use Rattle.field.proofs.Standing.{stands}
@@ -109,10 +110,6 @@ by-other-tag P tag known f equation freshness assumption protection =
     let y : _≡_ {A = ℕ} 0 1 = cc in
     absurd (omega arith)))))
 
--- Of a tag with one length only, that length.
-pub one-length : (k n m : ℕ) → (eqb m n ≡ false → lengthFits k m ≡ false) → lengthFits k m ≡ true → m ≡ n
-one-length k n m f e = by-test (eqb m n) (eqb-true m n) (λ q. let x = f q in let y : _≡_ {A = ℕ} 0 1 = cc in absurd (omega arith))
-
 -- A field that is no node and has a size is counted by its tag, and there is room for it.
 pub record OtherFound (z : Sizes) (t : List ℕ) (c : Counts) : Type 0 where
   pub same-size : otherSize z t ≡ goodSize z t
@@ -162,7 +159,8 @@ module _ (z : Sizes) (t : List ℕ) (b : Bytes t) where
   pub not-node : NoNode (tagIn (eight t)) → nodeSize z t ≡ 0
   not-node n = rw (no-node (subst NoNode (eight-tag t b) n))
 
-  pub not-other : (tagIn (eight t) ≡ 0x20 → ⊥) → (tagIn (eight t) ≡ 0x21 → ⊥) → (tagIn (eight t) ≡ 0x22 → ⊥) → (tagIn (eight t) ≡ 0x30 → ⊥)
+  pub not-other : (tagIn (eight t) ≡ 0x20 → ⊥) → (tagIn (eight t) ≡ 0x21 → ⊥) → (tagIn (eight t) ≡ 0x22 → ⊥)
+      → (tagIn (eight t) ≡ 0x30 → ⊥)
       → otherSize z t ≡ 0
   not-other n₀ n₁ n₂ n₃ =
       by-test (nodeTag (byte t 0))
@@ -171,7 +169,8 @@ module _ (z : Sizes) (t : List ℕ) (b : Bytes t) where
       rw e
       (no-size
       (λ f.
-      by-other-tag (λ k. tagIn (eight t) ≡ k → ⊥) (f .tag) (sound f .known-tag) (rw (first-is f) e) n₀ n₁ n₂ n₃ (field-tag t b (f .stands-there)))))
+      by-other-tag (λ k. tagIn (eight t) ≡ k → ⊥) (f .tag) (sound f .known-tag) (rw (first-is f) e) n₀ n₁ n₂ n₃
+      (field-tag t b (f .stands-there)))))
 
   -- ---- fields that have one
 

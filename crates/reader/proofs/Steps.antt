@@ -11,6 +11,7 @@ use Rattle.field.specs.Field.{whole, front, byte, Bytes}
 use Rattle.field.specs.Word.{eight, tagIn, lengthIn, firstByteIn, secondByteIn, firstTwoIn, middleTwoIn, lastTwoIn}
 use Rattle.field.proofs.Words.{eight-tag, field-first-byte, field-second-byte}
 use Rattle.problem.specs.Reader.{lengthFits, item}
+use Rattle.problem.proofs.Kept.{one-length}
 use Rattle.problem.specs.Held.{keptWord, withPlace}
 use Rattle.problem.specs.Look.{formIn}
 use Rattle.problem.specs.declared.Counts.{Counts}
@@ -25,7 +26,7 @@ use Rattle.reader.specs.Found.{applicationGood, suspensionGood, equation
 use Rattle.reader.specs.Found.{Kept, Seen, Stepped, NodeStepped, OtherStepped}
 use Rattle.reader.proofs.Found.{unit-size, atom-size, abstraction-size, pair-size, application-size, suspension-size}
 use Rattle.reader.proofs.Found.{equation-size, freshness-size, assumption-size, protection-size}
-use Rattle.reader.proofs.Stepping.{good-field, first-is, sound, one-length}
+use Rattle.reader.proofs.Stepping.{good-field, first-is, sound}
 
 -- ---- tables that are kept or stay
 
@@ -175,9 +176,11 @@ module _ (t : List ℕ) (b : Bytes t) where
 -- The other fields, of whose bytes enough are there.
 module _ {t : List ℕ} {o : ℕ} {c : Counts} {places assumed : List ℕ} (b : Bytes t) (seen : Seen t) where
   -- A row behind the nodes is set.
-  place-step : {good : Bool} {size row r : ℕ} {places' : List ℕ} (k : ℕ) (said : Said) → tagIn (eight t) ≡ k → nodeTag k ≡ false → (size ≡ 0 → ⊥)
+  place-step : {good : Bool} {size row r : ℕ} {places' : List ℕ} (k : ℕ) (said : Said) → tagIn (eight t) ≡ k → nodeTag k ≡ false
+      → (size ≡ 0 → ⊥)
       → ((body rest : List ℕ) → front t ≡ whole k body rest → lengthFits k (length body) ≡ true → saidBy 0 (item k body) ≡ said)
-      → ((before : ReaderTables) → noted said (eight t) o c before ≡ readerTables (set (before .places) row (eight t)) (before .assumed) (before .variables))
+      → ((before : ReaderTables)
+      → noted said (eight t) o c before ≡ readerTables (set (before .places) row (eight t)) (before .assumed) (before .variables))
       → ((before : ReaderTables) → row < length (before .places) → RowFor said c before)
       → cond good size 0 ≡ goodSize (sizedBy c) t → Kept good size row (eight t) r places places'
       → OtherStepped t o c places assumed r places' assumed

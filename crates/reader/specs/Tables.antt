@@ -49,7 +49,8 @@ stopped zero t u = u
 stopped (suc f) t u = t
 
 -- One field at offset o, whose first eight bytes are w, and then, by `onward`, the fields after it, as the reader reads them.
-abbrev pub oneNoted : (ℕ → Bool) → Problem → ℕ → ReaderTables → (Problem → ℕ → List ℕ → ReaderTables → ReaderTables) → ℕ → Field → ReaderTables
+abbrev pub oneNoted : (ℕ → Bool) → Problem → ℕ → ReaderTables → (Problem → ℕ → List ℕ → ReaderTables → ReaderTables) → ℕ
+    → Field → ReaderTables
 oneNoted known p o t onward w cut = t
 oneNoted known p o t onward w (whole tag s rest) =
     let u : ReaderTables = onward (add p o (item tag s)) (o + (3 + length s)) rest (noted (saidBy 0 (item tag s)) w o (countsOf p) t) in

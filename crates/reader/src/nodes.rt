@@ -7,7 +7,6 @@ ghost use Rattle.sets.specs.Bits.{inserted, union};
 ghost use Rattle.field.specs.Word.{eight, lengthIn, firstByteIn, firstTwoIn, middleTwoIn, lastTwoIn};
 ghost use Rattle.problem.specs.Held.{withPlace};
 ghost use Rattle.variables.specs.Variables.{setOf};
-ghost use Rattle.says.specs.Told.{below};
 ghost use Rattle.reader.specs.Found.{unitGood, atomGood, abstractionGood, pairGood, applicationGood, swapsGood, permutationGood};
 ghost use Rattle.reader.specs.Found.{suspensionGood, withNodes, Kept, Seen, NodeStepped};
 ghost use Rattle.reader.specs.Onward.{NodesAsked, NodesRead};
@@ -17,6 +16,7 @@ use names::Variable;
 use problem::Counts;
 use problem::Places;
 use problem::keep;
+use says::all_below;
 use sets::VariableSet;
 use variables::NodeVariables;
 
@@ -142,24 +142,6 @@ fn application(w: u64, n: u16, places: &mut Places, node_variables: &mut NodeVar
     let inside = variables::of_node(node_variables, NodeId(part));
     put(places, node_variables, n, w, inside);
     7
-}
-
-// Every byte names an atom. The greatest is looked for with no early end, so that many are taken at once.
-fn all_below(b: &[u8], atoms: u8) -> bool
-    ensures { λ r. ⌜ r ≡ below atoms (now (b .entry)) ⌝ }
-{
-    let mut most: u8 = 0;
-    let mut i: usize = 0;
-    while i < b.len() {
-        if b[i] > most {
-            most = b[i];
-        }
-        i += 1;
-    }
-    if b.len() == 0 {
-        return true;
-    }
-    most < atoms
 }
 
 // The size of a suspension's field with swaps, if its length fits, it is whole and every swap's atoms are there.

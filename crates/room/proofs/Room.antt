@@ -19,7 +19,8 @@ use Rattle.room.specs.Stacks.{onwards, stacks, Reaches, at-start, after-
 use Rattle.room.proofs.Reached.{Once, reached-few}
 
 -- What is reached lies on the run's own way: after so many steps, whatever the limit, the run goes on from there.
-pub run-onward : (g : Ground) (k : ℕ) (e : Equation) (es : List Equation) (bs : List Binding) (ds : List Demand) (qs : List (Side × Side)) (b : List (ℕ × Side))
+pub run-onward : (g : Ground) (k : ℕ) (e : Equation) (es : List Equation) (bs : List Binding) (ds : List Demand) (qs : List (Side × Side))
+    (b : List (ℕ × Side))
     (d : List (ℕ × Subject))
     → step g bs (e .left) (e .right) ≡ goes-on qs b d
     → run g (suc k) (e ∷ es) bs ds ≡ run g k (pending (e .number) qs ++ es) (bs ++ bindings (e .number) b) (ds ++ demands (e .number) d)

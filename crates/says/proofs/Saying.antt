@@ -1,14 +1,12 @@
--- What a field says, as the code finds it out: atoms looked at byte by byte, a tag that is none of those known, and the fault.
-use Prim.Native.Nat.{ℕ, zero, suc, _+_, _%_, _≤_, _<_}
+-- What a field says, as the code finds it out: the atoms of swaps, a tag that is none of those known, and the fault.
+use Prim.Native.Nat.{ℕ, zero, suc, _%_}
 use native.Mathlib.Omega.{arith}
-use native.Mathlib.Numerals.{add-one}
 use mathlib.Core.Path.{_≡_, refl, ap}
-use mathlib.Core.Bool.{true, false, _&&_}
+use mathlib.Core.Bool.{false, _&&_}
 use mathlib.Core.List.{List, [], _∷_}
-use lib.ListN.{length, getD, drop, drop-of-length-le}
-use lib.Seq.{drop-cons}
+use lib.ListN.{length, drop}
 use lib.Dec.{ltb}
-use borrow.Author.Tests.{ne-eqb, lt-ltb, le-ltb}
+use borrow.Author.Tests.{ne-eqb}
 use Rattle.permutation.specs.Swaps.{swapsIn}
 use Rattle.problem.specs.Reader.{Item, node, equation, freshness, assumption, protection, Sizes, baseTags, swapsThere, item, fault}
 use Rattle.says.specs.Told.{below, saidBy, saidOf, faultBy}
@@ -22,17 +20,6 @@ swaps-below atoms (a ∷ b ∷ s) e = ap (λ t. ltb a atoms && (ltb b atoms && t
 pub suspended : (atoms : ℕ) (s : List ℕ) → length s % 2 ≡ 1 → swapsThere atoms (swapsIn (drop 1 s)) ≡ below atoms (drop 1 s)
 suspended atoms [] e = refl
 suspended atoms (X ∷ s) e = swaps-below atoms s (omega arith)
-
--- Byte by byte from place i on.
-module _ (atoms : ℕ) (s : List ℕ) (i : ℕ) where
-  pub below-stops : i < length s → atoms ≤ getD s i 0 → below atoms (drop i s) ≡ false
-  below-stops h k = rw (drop-cons s i 0 h, le-ltb (getD s i 0) atoms k)
-
-  pub below-goes : i < length s → getD s i 0 < atoms → below atoms (drop i s) ≡ below atoms (drop (i + 1) s)
-  below-goes h k = rw (add-one i, drop-cons s i 0 h, lt-ltb (getD s i 0) atoms k)
-
-  pub below-ends : length s ≤ i → below atoms (drop i s) ≡ true
-  below-ends h = rw (drop-of-length-le s h)
 
 -- A tag that is none of the ten is unknown.
 pub record NoTag (tag : ℕ) : Type 0 where

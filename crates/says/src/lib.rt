@@ -111,18 +111,22 @@ fn application(b: &[u8], z: Sizes) -> Said
     Said::Node
 }
 
-// Every byte names an atom.
-fn all_below(b: &[u8], atoms: u8) -> bool
+// Every byte names an atom. The greatest is looked for with no early end, so that many are taken at once.
+pub fn all_below(b: &[u8], atoms: u8) -> bool
     ensures { λ r. ⌜ r ≡ below atoms (now (b .entry)) ⌝ }
 {
+    let mut most: u8 = 0;
     let mut i: usize = 0;
     while i < b.len() {
-        if b[i] >= atoms {
-            return false;
+        if b[i] > most {
+            most = b[i];
         }
         i += 1;
     }
-    true
+    if b.len() == 0 {
+        return true;
+    }
+    most < atoms
 }
 
 fn suspension(b: &[u8], z: Sizes) -> Said

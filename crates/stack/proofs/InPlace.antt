@@ -35,7 +35,8 @@ module _ (heads : List (List ℕ)) (n number : ℕ) (l r : NodeId) where
       let whole : number % 256 ≡ number = omega arith in
       rw (getD-set-same heads n (number ∷ l .0 ∷ r .0 ∷ []) [] there, whole)
 
-  nodes-other : (images : List (List (List ℕ))) (i : ℕ) → i ≢ n → pendingAt (stackTables renewedHeads images) i ≡ pendingAt (stackTables heads images) i
+  nodes-other : (images : List (List (List ℕ))) (i : ℕ) → i ≢ n
+      → pendingAt (stackTables renewedHeads images) i ≡ pendingAt (stackTables heads images) i
   unfolding pendingAt
   nodes-other images i o = rw (getD-set-other heads n i (number ∷ l .0 ∷ r .0 ∷ []) [] o)
 

@@ -28,14 +28,16 @@ pub record AtomsAsked (p : Problem) (seen : List ℕ) (n X : ℕ) (π : Swaps) (
   pub in-variables : X < length variables
   pub is-variables : variables₁ ≡ added variables X (sentInto 32 (act π) (getD seen n 0))
 
-module _ {p : Problem} {seen : List ℕ} {n X : ℕ} {π : Swaps} {variables variables₁ : List ℕ} (t : AtomsAsked p seen n X π variables variables₁) where
+module _ {p : Problem} {seen : List ℕ} {n X : ℕ} {π : Swaps} {variables variables₁ : List ℕ}
+    (t : AtomsAsked p seen n X π variables variables₁) where
   abbrev atoms : ℕ
   atoms = sentInto 32 (act π) (getD seen n 0)
 
   -- The atom that π sends to one that was seen is among those sent.
   sent-back : (a : ℕ) → member (getD seen n 0) a ≡ true → member atoms (act (inverse π) a) ≡ true
   sent-back a h =
-      member-is-sent 32 (act π) (getD seen n 0) _ a (within 32 (inverse π) a (within-inverse 32 π (t .names)) (member-within 32 (getD seen n 0) a (t .small) h))
+      member-is-sent 32 (act π) (getD seen n 0) _ a
+      (within 32 (inverse π) a (within-inverse 32 π (t .names)) (member-within 32 (getD seen n 0) a (t .small) h))
       (act-inverse π a) h
 
   asked-here : (a : ℕ) → member (getD seen n 0) a ≡ true → Marked p seen variables₁ (of-variable (act (inverse π) a) X)

@@ -156,7 +156,8 @@ module _ {p : Problem} {atoms n : ℕ} {seen variables : List ℕ} {new : ℕ} {
       (difference-cases atoms (getD seen n 0) a e)
 
   -- The new atoms at the node are looked through or wait, and nothing else is marked than what they lead to: so the atoms were visited.
-  visited-by : {After : Pair → Type 0} {late late₁ : List ℕ} → ((value : ℕ → Option Side) → PartsGrown (p .nodes) value late₁ (Only atoms n) Now After)
+  visited-by : {After : Pair → Type 0} {late late₁ : List ℕ}
+      → ((value : ℕ → Option Side) → PartsGrown (p .nodes) value late₁ (Only atoms n) Now After)
       → LateGrown (p .nodes) late late₁
       → ((value : ℕ → Option Side) (a : ℕ) → member new a ≡ true → LookedOrLate (p .nodes) value late₁ After (of-node a n))
       → Done After late late₁

@@ -6,14 +6,14 @@ use Rattle.stack.specs.Stack as pending
 use Rattle.bindings.specs.Bindings as bindings
 use Rattle.demands.specs.Demands.{sheet}
 use Rattle.perform.specs.Performed.{tablesOf}
-use Rattle.quick.specs.Going.{Onward}
+use Rattle.quick.specs.Going.{CarriedOn}
 use Rattle.quick.proofs.Descending.{onward-none, onward-some, onward-more}
 use Rattle.quick.proofs.go.Statement.{statement}
 use Rattle.quick.proofs.go.Tie as tie
 
 abbrev Inv-loop : tie.InvT-loop
 Inv-loop s places heads₀ images₀ made values asked₀ firsts₀ atoms start taken limit bound went₀ heads images asked firsts went =
-    Onward s atoms limit (tablesOf (pending.stackTables heads₀ images₀) (bindings.bindingTables made values) (sheet asked₀ firsts₀)) taken start
+    CarriedOn s atoms limit (tablesOf (pending.stackTables heads₀ images₀) (bindings.bindingTables made values) (sheet asked₀ firsts₀)) taken start
     (tablesOf (pending.stackTables heads images) (bindings.bindingTables made values) (sheet asked firsts)) went
 
 abbrev μ-loop : tie.MeasureT-loop

@@ -100,7 +100,8 @@ returns-6 c =
     let tag = the-tag at-tag in
     (λ variables.
     none-found
-    (not-other (sizedBy (at-start .before .args .c)) (left at-start) (left-bytes at-start) (λ e. others .0 .0 .0 .1 (tag ∙ e)) (λ e. others .0 .0 .1 (tag ∙ e))
+    (not-other (sizedBy (at-start .before .args .c)) (left at-start) (left-bytes at-start) (λ e. others .0 .0 .0 .1 (tag ∙ e))
+    (λ e. others .0 .0 .1 (tag ∙ e))
     (λ e. others .0 .1 (tag ∙ e)) (λ e. others .1 (tag ∙ e))))
 
 pub other-spec : {M : Type 1} → statement M

@@ -21,7 +21,11 @@ returns-2 c = rw (le-ltb _ _ (rw (c .before .before .first-byte .ensures) at (c 
 returns-3 : tie.Need-returns-3
 returns-3 c =
     let at-if1 = c .before .before .before in
-    rw (eq-eqb _ 0x300001 (sym (at-if1 .before .key .ensures) ∙ at-if1 .if1 .left), lt-ltb _ _ (rw (c .before .before .first-byte .ensures) at (c .if2 .left)))
+    rw (
+      eq-eqb _ 0x300001 (sym (at-if1 .before .key .ensures) ∙ at-if1 .if1 .left),
+      lt-ltb _ _
+          (rw (c .before .before .first-byte .ensures) at (c .if2 .left)),
+    )
 
 pub protection-spec : {M : Type 1} → statement M
 protection-spec = tie.close (tie.spec key-requires returns first-byte-requires returns-2 returns-3)

@@ -1,20 +1,23 @@
--- `says::all_below`. What is left to look at decides as all of it did, and it gets shorter.
-use borrow.Author.Needs.{needs}
-use mathlib.Core.Path.{_≡_, refl, sym, _∙_}
+-- `says::all_below`. The greatest byte so far and those that are left decide as all of them did.
 use Prim.Native.Nat.{ℕ, _≤_, _-_}
 use native.Mathlib.Omega.{arith}
+use mathlib.Core.Path.{_≡_, refl, sym, _∙_}
+use mathlib.Core.Logic.{⊎-elim}
+use mathlib.Core.Bool.{_&&_}
 use mathlib.Core.List.{List}
 use lib.ListN.{length, drop}
+use lib.Dec.{ltb}
 use Rattle.says.specs.Told.{below}
-use Rattle.says.proofs.Saying.{below-stops, below-goes, below-ends}
+use Rattle.says.proofs.Greatest.{one-greater, none-greater, no-more, from-zero, of-none}
+use borrow.Author.Needs.{needs}
 use Rattle.says.proofs.all_below.Statement.{statement}
 use Rattle.says.proofs.all_below.Tie as tie
 
 abbrev Inv-loop : tie.InvT-loop
-Inv-loop b atoms i₀ i = (i ≤ length b) × (below atoms b ≡ below atoms (drop i b))
+Inv-loop b atoms most₀ i₀ most i = (i ≤ length b) × (ltb 0 atoms && below atoms b ≡ ltb most atoms && below atoms (drop i b))
 
 abbrev μ-loop : tie.MeasureT-loop
-μ-loop b atoms i₀ i = length b - i
+μ-loop b atoms most₀ i₀ most i = length b - i
 
 -- In the loop: the bytes, how many atoms there are, and the place that is looked at.
 module _ (c : tie.At-loop Inv-loop μ-loop) where
@@ -33,10 +36,8 @@ loop-holds c = (omega arith, refl)
 shared-slice-read-if1 : tie.Need-shared-slice-read-if1 Inv-loop μ-loop
 shared-slice-read-if1 c = search needs
 
-returns : tie.Need-returns Inv-loop μ-loop
-returns c =
-    let in-loop = c .before .before .before in
-    sym (in-loop .loop .inv .1 ∙ below-stops (atoms in-loop) (bytes in-loop) (place in-loop) (c .before .before .loop-test .taken) (c .if1 .taken))
+shared-slice-read-most : tie.Need-shared-slice-read-most Inv-loop μ-loop
+shared-slice-read-most c = search needs
 
 add-i : tie.Need-add-i Inv-loop μ-loop
 add-i c = search needs
@@ -46,14 +47,24 @@ loop-less c = search needs
 
 loop-again : tie.Need-loop-again Inv-loop μ-loop
 loop-again c =
-    let in-loop = c .before .before .before in
-    let goes = below-goes (atoms in-loop) (bytes in-loop) (place in-loop) (c .before .before .loop-test .taken) (c .if1 .left) in
-    (omega arith, in-loop .loop .inv .1 ∙ goes)
+    let test = c .before .before in
+    let at-loop = c .before .before .before in (
+      omega arith,
+      at-loop .loop .inv .1
+          ∙ ⊎-elim
+          (λ w. rw (w .2) (one-greater (atoms at-loop) (bytes at-loop) (place at-loop) (at-loop .loop .most) (test .loop-test .taken) (w .0 .taken)))
+          (λ w. rw (w .1) (none-greater (atoms at-loop) (bytes at-loop) (place at-loop) (at-loop .loop .most) (test .loop-test .taken) (w .0 .left)))
+          (c .if1 .came),
+    )
+
+returns : tie.Need-returns Inv-loop μ-loop
+returns c = let at-loop = c .before .before in of-none (atoms at-loop) (bytes at-loop) (c .if2 .taken)
 
 returns-2 : tie.Need-returns-2 Inv-loop μ-loop
 returns-2 c =
-    let in-loop = c .before in
-    sym (in-loop .loop .inv .1 ∙ below-ends (atoms in-loop) (bytes in-loop) (place in-loop) (c .loop-test .left))
+    let at-loop = c .before .before in
+    let all = no-more (atoms at-loop) (bytes at-loop) (place at-loop) (at-loop .loop .most) (c .before .loop-test .left) in
+    sym (sym (from-zero (atoms at-loop) (bytes at-loop) (c .if2 .left)) ∙ (at-loop .loop .inv .1 ∙ all))
 
 pub all-below-spec : {M : Type 1} → statement M
 all-below-spec =
@@ -63,8 +74,9 @@ all-below-spec =
     μ-loop
     loop-holds
     shared-slice-read-if1
-    returns
+    shared-slice-read-most
     add-i
     loop-less
     loop-again
+    returns
     returns-2)

@@ -78,7 +78,8 @@ returns : tie.Need-returns
 returns c =
     let here = c .before in
     let told = here .form-of .ensures ∙ ap formTold (suspended here .form) in
-    absurd (no-other (record { 0 = suspended here .variable }) (subst (λ (f : Form). OneOf (0 ∷ 1 ∷ 2 ∷ 3 ∷ 4 ∷ []) (tagOf the-type f)) told (c .match .keys2)))
+    absurd (no-other (record { 0 = suspended here .variable })
+    (subst (λ (f : Form). OneOf (0 ∷ 1 ∷ 2 ∷ 3 ∷ 4 ∷ []) (tagOf the-type f)) told (c .match .keys2)))
 
 cast-atoms-at : tie.Need-cast-atoms-at
 cast-atoms-at c = search needs
