@@ -10,6 +10,7 @@ use lib.ListN.{length}
 use lib.Dec.{eqb}
 use borrow.Author.Tests.{eq-eqb, ne-eqb}
 use Rattle.names.proofs.Equal.{by-eq}
+use Rattle.names.proofs.Without.{without, without-member, shorter-without}
 use Rattle.nominal.specs.Tree.{Tree, unit, atom, abstraction, pair, application, suspension, variable, size, Occurs, substitute, replacing}
 use Rattle.nominal.specs.Solutions.{Every, Facts, TreeDemand, TreeEquation, TreeProblem}
 use Rattle.nominal.proofs.Tree.{size-permute, occurs-permute, occurs-substitute}
@@ -43,26 +44,6 @@ UsesEquation Xs e = Uses Xs (e .0) × Uses Xs (e .1)
 pub record Covers (Xs : List ℕ) (P : TreeProblem) : Type 0 where
   pub demands : Every (UsesDemand Xs) (P .demands)
   pub equations : Every (UsesEquation Xs) (P .equations)
-
--- ---- one variable less
-
-abbrev without : ℕ → List ℕ → List ℕ
-without X [] = []
-without X (Y ∷ Xs) = cond (eqb Y X) (without X Xs) (Y ∷ without X Xs)
-
-mem-without : {X Y : ℕ} {Xs : List ℕ} → Y ≢ X → List·Memᴰ Y Xs → List·Memᴰ Y (without X Xs)
-mem-without {X} n (List·Memᴰ·head {x = Z} p) = rw (ne-eqb Z X (λ q. n (p ∙ q))) (List·Memᴰ·head p)
-mem-without {X} n (List·Memᴰ·tail {x = Z} k) = by-eq Z X (λ q. rw (eq-eqb Z X q) (mem-without n k)) (λ m. rw (ne-eqb Z X m) (List·Memᴰ·tail (mem-without n k)))
-
-length-without : (X : ℕ) (Xs : List ℕ) → length (without X Xs) ≤ length Xs
-length-without X [] = omega arith
-length-without X (Y ∷ Xs) =
-    by-eq Y X (λ q. rw (eq-eqb Y X q) (omega (arith, length-without X Xs))) (λ m. rw (ne-eqb Y X m) (omega (arith, length-without X Xs)))
-
-shorter-without : {X : ℕ} {Xs : List ℕ} → List·Memᴰ X Xs → length (without X Xs) < length Xs
-shorter-without {X} (List·Memᴰ·head {x = Y} {xs = Xs} p) = rw (eq-eqb Y X (sym p)) (omega (arith, length-without X Xs))
-shorter-without {X} (List·Memᴰ·tail {x = Y} {xs = Xs} k) =
-    by-eq Y X (λ q. rw (eq-eqb Y X q) (omega (arith, length-without X Xs))) (λ m. rw (ne-eqb Y X m) (omega (arith, shorter-without k)))
 
 -- ---- the rules
 
@@ -119,8 +100,8 @@ module _ {isProtected : ℕ → Type 0} where
 uses-put : (Xs : List ℕ) (X : ℕ) (u : Tree) → (Occurs X u → ⊥) → Uses Xs u → (t : Tree) → Uses Xs t → Uses (without X Xs) (substitute (replacing X u) t)
 uses-put Xs X u absent h t k Y o =
     let (Z, z, y) = occurs-substitute (replacing X u) Y t o in
-    by-eq Z X (λ p. let i : Occurs Y u = rw (p, replacing-same X u) at y in mem-without {Xs = Xs} (λ q. absent (rw q at i)) (h Y i)) λ n.
-    let i : Y ≡ Z = rw (replacing-other X u Z n) at y in mem-without {Xs = Xs} (λ q. n (sym i ∙ q)) (rw i (k Z z))
+    by-eq Z X (λ p. let i : Occurs Y u = rw (p, replacing-same X u) at y in without-member {l = Xs} (λ q. absent (rw q at i)) (h Y i)) λ n.
+    let i : Y ≡ Z = rw (replacing-other X u Z n) at y in without-member {l = Xs} (λ q. n (sym i ∙ q)) (rw i (k Z z))
 
 puts-demands : (Xs : List ℕ) (X : ℕ) (u : Tree) → (Occurs X u → ⊥) → Uses Xs u → (D : List TreeDemand) → Every (UsesDemand Xs) D
     → Every (UsesDemand (without X Xs)) (map (λ d. (d .0, substitute (replacing X u) (d .1))) D)

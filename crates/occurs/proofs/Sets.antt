@@ -3,7 +3,7 @@ use Prim.Native.Nat.{ℕ, zero, suc, _^_, _≤_, _<_}
 use native.Mathlib.Omega.{arith}
 use mathlib.Core.Path.{_≡_, refl, sym, _∙_, ap}
 use mathlib.Core.Logic.{⊎-elim}
-use mathlib.Core.Bool.{Bool, true, false, _||_}
+use mathlib.Core.Bool.{Bool, true, false, _||_, or-false}
 use mathlib.Core.List.{List}
 use lib.ListN.{length}
 use lib.Dec.{eqb}
@@ -36,10 +36,6 @@ use Rattle.variables.specs.Variables.{setOf, variablesOf, VariablesKept}
 use Rattle.run.specs.Meaning.{occursIn}
 use Rattle.run.proofs.Trees.{built, tree-built}
 use Rattle.occurs.specs.Reached.{VariablesOf, FilledBelow, behind, VariableReached, inside, through, Closure}
-
-or-false : (b : Bool) → b || false ≡ b
-or-false true = refl
-or-false false = refl
 
 -- No test has two outcomes.
 pub apart : {R : Type 0} {b : Bool} → b ≡ true → b ≡ false → R

@@ -19,7 +19,7 @@ use Rattle.problem.specs.declared.Counts.{Counts}
 use Rattle.problem.proofs.Readable.{both, Faultless, faultless}
 use Rattle.says.specs.Told.{saidBy}
 use Rattle.says.specs.declared.Said.the-variants.{Node}
-use Rattle.says.proofs.Saying.{no-base-tag}
+use Rattle.says.proofs.Saying.{NoNode, no-base-tag}
 use Rattle.reader.specs.Noting.{counted}
 use Rattle.reader.specs.Found.{goodSize, nodeTag, nodeSize, otherSize, saidAt, countedIn}
 
@@ -69,14 +69,6 @@ by-node-tag P tag e unit atom abstraction pair application suspension =
     (λ n₃. by-eq tag 0x14 (λ q. rw q application)
     (λ n₄. by-eq tag 0x15 (λ q. rw q suspension) (λ n₅. absurd (omega arith)))))))
 
-pub record NoNode (tag : ℕ) : Type 0 where
-  pub no-unit : tag ≡ 0x10 → ⊥
-  pub no-atom : tag ≡ 0x11 → ⊥
-  pub no-abstraction : tag ≡ 0x12 → ⊥
-  pub no-pair : tag ≡ 0x13 → ⊥
-  pub no-application : tag ≡ 0x14 → ⊥
-  pub no-suspension : tag ≡ 0x15 → ⊥
-
 no-node : {tag : ℕ} → NoNode tag → nodeTag tag ≡ false
 no-node {tag} n =
     by-test (nodeTag tag)
@@ -96,12 +88,14 @@ by-other-tag P tag known f equation freshness assumption protection =
     (λ n₂. by-eq tag 0x30 (λ q. rw q protection)
     (λ n₃.
     let none = no-base-tag tag (record {
-      no-unit = not-this 0x10 tag refl f;
-      no-atom = not-this 0x11 tag refl f;
-      no-abstraction = not-this 0x12 tag refl f;
-      no-pair = not-this 0x13 tag refl f;
-      no-application = not-this 0x14 tag refl f;
-      no-suspension = not-this 0x15 tag refl f;
+      no-node = record {
+        no-unit = not-this 0x10 tag refl f;
+        no-atom = not-this 0x11 tag refl f;
+        no-abstraction = not-this 0x12 tag refl f;
+        no-pair = not-this 0x13 tag refl f;
+        no-application = not-this 0x14 tag refl f;
+        no-suspension = not-this 0x15 tag refl f;
+      };
       no-equation = n₀;
       no-freshness = n₁;
       no-assumption = n₂;

@@ -9,24 +9,11 @@ use lib.ListN.{length}
 use lib.Dec.{eqb}
 use borrow.Author.Tests.{eq-eqb, ne-eqb}
 use Rattle.names.proofs.Equal.{by-eq}
+use Rattle.names.proofs.Without.{without, member-without}
 
 abbrev pub Distinct : List ℕ → Type 0
 Distinct [] = Unit {0}
 Distinct (i ∷ l) = ((k : ℕ) → List·Memᴰ k l → i ≢ k) × Distinct l
-
-abbrev without : ℕ → List ℕ → List ℕ
-without x [] = []
-without x (i ∷ l) = cond (eqb i x) (without x l) (i ∷ without x l)
-
-member-without : (x : ℕ) (l : List ℕ) (k : ℕ) → List·Memᴰ k (without x l) → List·Memᴰ k l × (k ≢ x)
-member-without x [] k m = absurd (elim m [ ])
-member-without x (i ∷ l) k m =
-    by-eq i x (λ p. let h = member-without x l k (rw (eq-eqb i x p) at m) in (List·Memᴰ·tail (h .0), h .1))
-    (λ n. split n (rw (ne-eqb i x n) at m) (λ j. member-without x l k j))
-  where
-    split : i ≢ x → List·Memᴰ k (i ∷ without x l) → (List·Memᴰ k (without x l) → List·Memᴰ k l × (k ≢ x)) → List·Memᴰ k (i ∷ l) × (k ≢ x)
-    split n (List·Memᴰ·head e) later = (List·Memᴰ·head e, λ p. n (sym e ∙ p))
-    split n (List·Memᴰ·tail j) later = (List·Memᴰ·tail (later j .0), later j .1)
 
 distinct-without : (x : ℕ) (l : List ℕ) → Distinct l → Distinct (without x l)
 distinct-without x [] d = tt

@@ -21,14 +21,17 @@ pub suspended : (atoms : ℕ) (s : List ℕ) → length s % 2 ≡ 1 → swapsThe
 suspended atoms [] e = refl
 suspended atoms (X ∷ s) e = swaps-below atoms s (omega arith)
 
--- A tag that is none of the ten is unknown.
-pub record NoTag (tag : ℕ) : Type 0 where
+-- A tag that is none of a node's six, and one that is none of the ten, which is unknown.
+pub record NoNode (tag : ℕ) : Type 0 where
   pub no-unit : tag ≡ 0x10 → ⊥
   pub no-atom : tag ≡ 0x11 → ⊥
   pub no-abstraction : tag ≡ 0x12 → ⊥
   pub no-pair : tag ≡ 0x13 → ⊥
   pub no-application : tag ≡ 0x14 → ⊥
   pub no-suspension : tag ≡ 0x15 → ⊥
+
+pub record NoTag (tag : ℕ) : Type 0 where
+  pub no-node : NoNode tag
   pub no-equation : tag ≡ 0x20 → ⊥
   pub no-freshness : tag ≡ 0x21 → ⊥
   pub no-assumption : tag ≡ 0x22 → ⊥
@@ -38,12 +41,12 @@ pub no-base-tag : (tag : ℕ) → NoTag tag → baseTags tag ≡ false
 unfolding baseTags
 no-base-tag tag n =
     rw (
-      ne-eqb tag 0x10 (n .no-unit),
-      ne-eqb tag 0x11 (n .no-atom),
-      ne-eqb tag 0x12 (n .no-abstraction),
-      ne-eqb tag 0x13 (n .no-pair),
-      ne-eqb tag 0x14 (n .no-application),
-      ne-eqb tag 0x15 (n .no-suspension),
+      ne-eqb tag 0x10 (n .no-node .no-unit),
+      ne-eqb tag 0x11 (n .no-node .no-atom),
+      ne-eqb tag 0x12 (n .no-node .no-abstraction),
+      ne-eqb tag 0x13 (n .no-node .no-pair),
+      ne-eqb tag 0x14 (n .no-node .no-application),
+      ne-eqb tag 0x15 (n .no-node .no-suspension),
       ne-eqb tag 0x20 (n .no-equation),
       ne-eqb tag 0x21 (n .no-freshness),
       ne-eqb tag 0x22 (n .no-assumption),

@@ -5,7 +5,7 @@ use native.Mathlib.Nat.{pow-suc, div-div-eq-div-mul, mul-comm, div-one, one-mul,
 use native.Mathlib.Omega.{arith}
 use mathlib.Core.Path.{_≡_, refl, sym, _∙_, ap, ap₂}
 use mathlib.Core.Logic.{_≢_, _⊎_, inl, inr}
-use mathlib.Core.Bool.{Bool, true, false, not, _&&_, _||_}
+use mathlib.Core.Bool.{Bool, true, false, not, _&&_, _||_, or-false}
 use mathlib.Core.List.{List, [], _∷_, _++_, List·Memᴰ, List·Memᴰ·head, List·Memᴰ·tail, List·Memᴰ·not-nil}
 use lib.ListN.{length}
 use lib.Pow.{pow-pos, pow-lt, pow-mono, shl-exact}
@@ -139,10 +139,6 @@ member-past k w i h l = bit-no-member w i (bit-past k w i h l)
 pub member-within : (k w i : ℕ) → w < 2 ^ k → member w i ≡ true → i < k
 member-within k w i h m =
     by-lt i k (λ l. l) (λ l. let z : bit w i ≡ 0 = bit-past k w i h l in let o : bit w i ≡ 1 = member-bit w i m in absurd (omega arith))
-
-or-false : (b : Bool) → (b || false) ≡ b
-or-false true = refl
-or-false false = refl
 
 or-swap : (a b c : Bool) → (a || (b || c)) ≡ (b || (a || c))
 or-swap true true c = refl

@@ -72,12 +72,14 @@ returns-11 c =
     let other = c .match .rest in
     let tag = c .before .before .args .tag in
     rw (no-base-tag tag (record {
-      no-unit = other .0 .0 .0 .0 .0 .0 .0 .0 .0 .1;
-      no-atom = other .0 .0 .0 .0 .0 .0 .0 .0 .1;
-      no-abstraction = other .0 .0 .0 .0 .0 .0 .0 .1;
-      no-pair = other .0 .0 .0 .0 .0 .0 .1;
-      no-application = other .0 .0 .0 .0 .0 .1;
-      no-suspension = other .0 .0 .0 .0 .1;
+      no-node = record {
+        no-unit = other .0 .0 .0 .0 .0 .0 .0 .0 .0 .1;
+        no-atom = other .0 .0 .0 .0 .0 .0 .0 .0 .1;
+        no-abstraction = other .0 .0 .0 .0 .0 .0 .0 .1;
+        no-pair = other .0 .0 .0 .0 .0 .0 .1;
+        no-application = other .0 .0 .0 .0 .0 .1;
+        no-suspension = other .0 .0 .0 .0 .1;
+      };
       no-equation = other .0 .0 .0 .1;
       no-freshness = other .0 .0 .1;
       no-assumption = other .0 .1;

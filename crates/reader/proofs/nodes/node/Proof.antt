@@ -8,7 +8,8 @@ use Rattle.field.specs.Word.{eight, tagIn}
 use Rattle.field.proofs.Standing.{bytes-drop}
 use Rattle.problem.specs.declared.Counts.{Counts}
 use Rattle.reader.specs.Found.{sizedBy, withNodes}
-use Rattle.reader.proofs.Stepping.{NoNode, not-node}
+use Rattle.says.proofs.Saying.{NoNode}
+use Rattle.reader.proofs.Stepping.{not-node}
 use Rattle.reader.proofs.Steps.{NodeAt, none-found, unit-step, atom-step, abstraction-step, pair-step, application-step, suspension-step}
 use borrow.Author.Needs.{needs}
 use Rattle.reader.proofs.nodes.node.Statement.{statement}
