@@ -3,13 +3,14 @@
 
     edits.py [--beside] [NAME...]
 
-crates/NAME/must-fail/PLACE/LABEL.edit is one wrong change of the crate NAME (with no NAME, of every crate): a line `file: FILE` says of which file, and each pair of
-lines `old: TEXT` and `new: TEXT` behind it what stands there, once, and what is put in its place. With it a fact has to fail at PLACE: the function NAME::PLACE is not
-proved, and not for the sake of another that it calls; or a law of proofs/PLACE.antt fails, and not for the sake of another. An edit keeps the code's shape: the proof has
-to fit it. target/edits/NAME/LABEL has what was said.
+crates/NAME/must-fail/PLACE/LABEL.edit is one wrong change of the crate NAME (with no NAME, of every crate): a line `file: FILE` says of which file, and
+each pair of lines `old: TEXT` and `new: TEXT` behind it what stands there, once, and what is put in its place. With it a fact has to fail at PLACE: the
+function NAME::PLACE is not proved, and not for the sake of another that it calls; or a law of proofs/PLACE.antt fails, and not for the sake of another. An
+edit keeps the code's shape: the proof has to fit it. target/edits/NAME/LABEL has what was said.
 
-`rt ci` proves every crate from nothing. Here an edit is tried in a copy of its crate (`rt dev`), over a copy of what the prover has found out of the crate without the
-edit, which stands in the crate's library: so it looks only at what the edit changes. That a crate without an edit is proved so is tried first, of one crate.
+`rt ci` proves every crate from nothing. Here an edit is tried in a copy of its crate (`rt dev`), over a copy of what the prover has found out of the crate
+without the edit, which stands in the crate's library: so it looks only at what the edit changes. First one crate without an edit has to be proved, from
+nothing and over such a copy: so what is refused then is not refused for another reason.
 
 --beside: `rt ci` proves beside this, and a crate's edits begin once its library is there; otherwise it is made first. The last line is 'N passed, M failed'.
 """
@@ -77,12 +78,16 @@ class Edit:
             word, _, text = line.partition(":")
             text = text[1:] if text.startswith(" ") else text
             if word == "file":
-                path = os.path.join(crate, text)
+                path = os.path.normpath(os.path.join(crate, text))
+                if not path.startswith(crate + os.sep) or not os.path.isfile(path):
+                    raise Fault("BAD EDIT: the crate has no file %s" % text)
             elif word == "old":
                 old = text
             elif word == "new":
-                with open(path, encoding="utf-8") as file:
-                    before = file.read()
+                before = ""
+                if path:
+                    with open(path, encoding="utf-8") as file:
+                        before = file.read()
                 if not old or before.count(old) != 1:
                     raise Fault("BAD EDIT: what is to be changed does not stand there just once: %s" % old)
                 with open(path, "w", encoding="utf-8") as file:
@@ -123,7 +128,9 @@ class Prover:
             self.copy(name, top)
             if edit:
                 edit.make(crate)
-            run = subprocess.run(["rt", "dev", name], cwd=top, timeout=SECONDS, stdout=subprocess.PIPE, stderr=subprocess.STDOUT, errors="replace", check=False)
+            run = subprocess.run(
+                ["rt", "dev", name], cwd=top, timeout=SECONDS, stdout=subprocess.PIPE, stderr=subprocess.STDOUT, errors="replace", check=False
+            )
             self.store = self.store or next(iter(os.listdir(os.path.join(top, "target", "inc", name))), None)
         with open(os.path.join(TARGET, "edits", name, edit.label if edit else "no edit"), "w", encoding="utf-8") as log:
             log.write(run.stdout)
@@ -162,13 +169,14 @@ class Trials:
         print(words, flush=True)
 
     def control(self):
-        """One crate without an edit: the lowest that is ready."""
+        """One crate without an edit, the lowest that is ready: from nothing, and then over what was found out of it."""
         while not (ready := [name for name in self.prover.crates if self.prover.is_ready(name)]):
             if os.path.exists(ENDED):
                 return
             time.sleep(0.5)
-        status, said = self.prover.ask(ready[0])
-        self.count(status == 0, "%s without an edit: %s" % (ready[0], "proved" if status == 0 else "NOT PROVED:\n" + said[:1000]))
+        for way in ("from nothing", "over what was found out of it"):
+            status, said = self.prover.ask(ready[0])
+            self.count(status == 0, "%s without an edit, %s: %s" % (ready[0], way, "proved" if status == 0 else "NOT PROVED:\n" + said[:1000]))
 
     def one(self, edit):
         """Why an edit does not count as refused, or nothing."""
@@ -176,7 +184,7 @@ class Trials:
         try:
             edit.refused(*self.prover.ask(edit.name, edit))
             return None
-        except (Fault, OSError, TypeError, subprocess.TimeoutExpired) as fault:
+        except (Fault, OSError, subprocess.TimeoutExpired) as fault:
             return fault
         finally:
             edit.ended = time.time()
@@ -214,7 +222,10 @@ def main():
     unknown = [name for name in names if name not in crates]
     if unknown:
         sys.exit("crates.txt has no crate " + " ".join(unknown))
-    edits = [Edit(name, path) for name in names or crates for path in sorted(glob.glob(os.path.join(TOP, "crates", name, "must-fail/**/*.edit"), recursive=True))]
+    edits = []
+    for name in names or crates:
+        paths = glob.glob(os.path.join(TOP, "crates", name, "must-fail/**/*.edit"), recursive=True)
+        edits += [Edit(name, path) for path in sorted(paths)]
     if not beside and subprocess.run(["rt", "check", *dict.fromkeys(edit.name for edit in edits)], cwd=TOP, check=False).returncode != 0:
         sys.exit("not proved without any edit")
     trials = Trials(Prover(crates), list(edits))
