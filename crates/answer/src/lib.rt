@@ -1,5 +1,6 @@
 // The answer in bytes: 4E with the steps, 40 for each binding in the order made, 41 for each fact by variable and then atom. Its length is known before
 // a byte is written, so that an output that is too short stays as it was.
+#![tactic(auto)]
 
 ghost use Rattle.std.specs.Prelude.{◌≡◌, [], ◌∷◌, ℕ, ◌+◌, ◌≤◌, ◌<◌, length};
 ghost use Rattle.field.specs.Field.{bytes2};

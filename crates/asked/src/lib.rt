@@ -1,4 +1,5 @@
 // The demands of the file, added to those that the run raised when no equation is left: then the table of sets has all that is to be resolved.
+#![tactic(auto)]
 
 ghost use Rattle.std.specs.Prelude.{◌≡◌, ◌≤◌, length};
 ghost use Rattle.problem.specs.Held.{problem_of};

@@ -3,6 +3,7 @@
 // variables are bound says a set that is passed and returned by value.
 //
 // Images are read and written as whole rows, whatever the number of atoms in use. Where one image of a value is wanted, its row is read where it lies.
+#![tactic(auto)]
 
 ghost use Rattle.std.specs.Prelude.{◌≡◌, true, false, ℕ, ◌≤◌, ◌<◌, length, set};
 ghost use Rattle.permutation.specs.Table.{image, identity};

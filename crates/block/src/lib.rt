@@ -1,4 +1,6 @@
 // What one problem of a stream prints, from what the solver and the judge gave back: the solver's lines, the judge's line and an empty line.
+#![tactic(auto)]
+
 ghost use Rattle.std.specs.Prelude.{◌≡◌, ◌+◌, ◌*◌, ◌≤◌, length, take};
 ghost use Rattle.numbers.specs.Numbers.{result_of, judgement_given};
 ghost use Rattle.printer.specs.Placed.{Placed};

@@ -1,5 +1,7 @@
 // The entries for C: numbers and slices only. What the solver and the judge give back is one word, the number in its high half and the place in its
 // low half, and the output as it is left. Nothing is required of what is lent but that it is there.
+#![tactic(auto)]
+
 ghost use Rattle.std.specs.Prelude.{◌≡◌, ◌≤◌};
 ghost use Rattle.run.specs.Answer as run;
 ghost use Rattle.numbers.specs.Numbers.{packed};

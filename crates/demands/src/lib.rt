@@ -1,6 +1,7 @@
 // The demands that a run raises, as sets in tables that the caller lends: for each node and for each variable the atoms that must be fresh for it, and
 // the number of the equation that asked for each first. Only rows in use are cleared, and a number counts only where its atom is in the set, so the
 // table of numbers is never cleared.
+#![tactic(auto)]
 
 ghost use Rattle.std.specs.Prelude.{◌≡◌, false, ℕ, ◌≤◌, ◌<◌, length, get_or, set};
 ghost use Rattle.permutation.specs.Table.{image, inverted};

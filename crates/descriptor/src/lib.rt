@@ -2,6 +2,8 @@
 //
 // An answer can be made here alone, and here it is made of what the C library answered: so a contract that speaks of an answer speaks of a call. That
 // the call is made, and that errno is its own, is not proved but tested: no contract of the C library says what a call does, or what errno then is.
+#![tactic(auto)]
+
 ghost use Rattle.std.specs.Prelude.{◌≡◌, length, pos};
 ghost use Rattle.libc.specs.Io.{Moved};
 ghost use Rattle.descriptor.specs.Answers.{moved_of, failed_of, fault_of, passes};

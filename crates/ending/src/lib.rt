@@ -1,4 +1,6 @@
 // What comes after the last equation: all demands are resolved under the bindings, and the answer is written or the judgement given.
+#![tactic(auto)]
+
 pub mod assumed; // assumed.rt: what the judge asks in the end
 pub mod words; // words.rt: that the sets are words
 

@@ -1,4 +1,6 @@
 // What solve and judge have in common: a problem is read and worked, and its answer told of on standard error and written to standard output.
+#![tactic(auto)]
+
 ghost use Rattle.std.specs.Prelude.{◌≡◌, length};
 ghost use Rattle.notice.specs.Notices.{notice_of};
 ghost use Rattle.notice.specs.declared.Notice.TheVariants.{Nothing};

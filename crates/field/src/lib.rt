@@ -1,4 +1,6 @@
 // The field reader: what stands at the front of some bytes, its body as a part of them, and the numbers in a body. Nothing is copied.
+#![tactic(auto)]
+
 pub mod word; // word.rt: the first eight bytes of a field as one number
 
 ghost use Rattle.std.specs.Prelude.{◌≡◌, ◌+◌, ◌≤◌, ◌<◌, length, take, drop};

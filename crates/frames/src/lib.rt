@@ -1,4 +1,6 @@
 // A stream's next problem, after its length in four bytes, high byte first: read to the front of the lent bytes, as far as they go.
+#![tactic(auto)]
+
 ghost use Rattle.std.specs.Prelude.{◌≡◌, ◌⊎◌, ◌≤◌, ◌<◌, min, length};
 ghost use Rattle.frames.specs.Came.{Told};
 

@@ -2,6 +2,7 @@
 // Of each node and each variable the set of atoms that are to be fresh for it is kept: `visit` goes through the parts of one node, and here each node of
 // which something is demanded is visited, and what comes to a bound variable is passed on to its value. Whether a demand fails is read off the marks in
 // the end.
+#![tactic(auto)]
 
 ghost use Rattle.std.specs.Prelude.{◌≡◌, true, ℕ, ◌≤◌, ◌<◌, ◌^◌, length, get_or};
 ghost use Rattle.permutation.specs.Table.{image};

@@ -1,4 +1,6 @@
 // Reading standard input whole: as much as fits the lent bytes, and whether a read failed.
+#![tactic(auto)]
+
 ghost use Rattle.std.specs.Prelude.{◌≤◌, ◌≡◌, length, take};
 ghost use Rattle.intake.specs.Fills.{Fills};
 

@@ -1,5 +1,7 @@
 // What a program tells on standard error. A program has no exit status, and the script that starts it goes by these lines: nothing, `refused`, `refused`
 // and `text`, `cut`, or why the input could not be read or the output not be written. That a line is written is tested and not proved.
+#![tactic(auto)]
+
 ghost use Rattle.std.specs.Prelude.{false, ◌||◌, ◌≡◌};
 ghost use Rattle.sets.specs.Bits.{among};
 ghost use Rattle.notice.specs.Notices.{plain, in_comment, looks, is_text, no_problem, notice_of};

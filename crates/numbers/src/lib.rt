@@ -1,5 +1,7 @@
 // Document 01's table "Numbers given back". Whoever finds that a problem is to be refused says its number and its place once, in this form; it is handed on
 // as it is, and nobody after him has other words for it.
+#![tactic(auto)]
+
 ghost use Rattle.std.specs.Prelude.{◌≡◌};
 
 // A number of the table, and its place.

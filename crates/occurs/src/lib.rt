@@ -1,5 +1,6 @@
 // The occurs check as a closure over sets of variables. The set of the variables that occur in each node is made once, as nodes are read (`variables`);
 // then "X occurs in the right side, looked at through all bindings" takes at most one step for each bound variable, however often nodes are shared.
+#![tactic(auto)]
 
 ghost use Rattle.std.specs.Prelude.{◌<◌, get_or};
 ghost use Rattle.bindings.specs.Bindings.{NodesThere};

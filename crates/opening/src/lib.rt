@@ -1,4 +1,6 @@
 // What an input opens with. The tests of its first field stand in the order of document 01: 3, then 2.
+#![tactic(auto)]
+
 ghost use Rattle.std.specs.Prelude.{◌≡◌};
 ghost use Rattle.opening.specs.Head.{head_said, opening_of};
 

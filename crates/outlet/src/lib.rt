@@ -1,4 +1,6 @@
 // Writing bytes whole: until all are taken, a write fails, or one takes nothing. What was taken is then a prefix, and nothing follows a failed write.
+#![tactic(auto)]
+
 ghost use Rattle.std.specs.Prelude.{◌≤◌, ◌≡◌, true, length};
 ghost use Rattle.outlet.specs.Puts.{Puts};
 

@@ -1,4 +1,6 @@
 // Doing what the rule tells: equations are pushed, a binding is added, demands are raised. Each function has the tables that it changes; the others stay.
+#![tactic(auto)]
+
 ghost use Rattle.std.specs.Prelude.{◌≡◌, false, [], ◌∷◌, ℕ, ◌+◌, ◌≤◌, ◌<◌};
 ghost use Rattle.permutation.specs.Store.{table};
 ghost use Rattle.permutation.specs.Table.{after, inverted};

@@ -1,6 +1,7 @@
 // Permutations of up to 32 atoms, by value. Each contract equates the result with a definition of specs/Table.antt, for every content of the
 // arrays, so a caller knows a permutation by its operations and never by its store. The number of atoms in use, n, is a parameter: the cost of
 // an operation follows n and not 32.
+#![tactic(auto)]
 
 ghost use Rattle.std.specs.Prelude.{◌≡◌, true, ℕ, ◌≤◌, length};
 ghost use Rattle.permutation.specs.Swaps.{swapped, Within, swaps_in};

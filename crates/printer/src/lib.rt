@@ -1,5 +1,7 @@
 // The printer: what the solver and the judge give back, as lines of text in lent bytes. What does not fit is left out, so that no function asks
 // for room; four bytes of room for each byte of an answer are always enough.
+#![tactic(auto)]
+
 ghost use Rattle.std.specs.Prelude.{◌≡◌, true, [], ◌∷◌, ◌+◌, ◌<◌, length};
 ghost use Rattle.field.specs.Field.{word};
 ghost use Rattle.printer.specs.Placed.{Placed};

@@ -1,6 +1,8 @@
 // A problem as its bytes say it. The reader goes once through the bytes and keeps no copy of them: of each node, equation and freshness field it leaves
 // the first eight bytes in a table that the caller lends, as one number, and reads from that what stands there where it is wanted. A suspension's swaps
 // stay in the input.
+#![tactic(auto)]
+
 use names::{Atom, MOST_NODES, MOST_VARIABLES, NodeId, Variable};
 use sets::VariableSet;
 

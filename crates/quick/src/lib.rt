@@ -1,6 +1,8 @@
 // Steps taken where the equation lies: of two sides with the same form, whose nodes alone are looked at. The images stay in their rows, no side is put
 // together, and what is left to do is the next equation at once. Every step is the definition's own. Where one of another kind is wanted (a variable is to be
 // bound, a value has images of its own, a step refuses), the equation waits again as it was.
+#![tactic(auto)]
+
 ghost use Rattle.std.specs.Prelude.{◌≡◌, ◌≢◌, cond, ◌+◌, ◌≤◌, ◌<◌, length, eqb};
 ghost use Rattle.permutation.specs.Table.{image};
 ghost use Rattle.problem.specs.Held.{problem_of};

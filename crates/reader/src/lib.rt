@@ -1,5 +1,7 @@
 // The reader of document 01: every byte string is a problem, or is refused by number and place. Once through the bytes: a field without a fault is known
 // by its first eight bytes as one number; where there is a fault, the field is looked at again to tell which.
+#![tactic(auto)]
+
 pub mod nodes; // nodes.rt: nodes, one after the other
 
 ghost use Rattle.std.specs.Prelude.{◌≡◌, ◌+◌, ◌<◌, ◌≤◌, cond, length, get_or, drop};

@@ -1,5 +1,6 @@
 // A permutation as it lies in a lent table: a row. The pending equations and the bindings have such rows. This crate and `permutation` are the only
 // ones that know how a permutation is stored.
+#![tactic(auto)]
 
 ghost use Rattle.std.specs.Prelude.{◌≡◌, ℕ, ◌≤◌, ◌<◌, length, get_or, true};
 ghost use Rattle.permutation.specs.Table.{image, identity, inverted, disagreement};

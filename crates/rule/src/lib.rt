@@ -1,5 +1,7 @@
 // Which rule fits two resolved sides (document 01, "The run": "Then one step, the first that fits"). Nothing is changed here: what is to be done is told,
 // with the names that it takes.
+#![tactic(auto)]
+
 ghost use Rattle.std.specs.Prelude.{◌≡◌, Bool, ◌≤◌, ◌<◌};
 ghost use Rattle.permutation.specs.Store.{table};
 ghost use Rattle.permutation.specs.Table.{image};

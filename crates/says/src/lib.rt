@@ -1,4 +1,6 @@
 // What one whole field after the head says, or the number of its fault. The tests stand in the order of document 01: 4, 5, 6, 7.
+#![tactic(auto)]
+
 ghost use Rattle.std.specs.Prelude.{◌≡◌};
 ghost use Rattle.says.specs.Told.{below, said_of, sized, fault_by};
 

@@ -3,6 +3,8 @@
 // that must be fresh on to a node's parts together, not one at a time.
 //
 // Every function is for every input. An atom of 32 or more and a variable of 64 or more are in no set, and adding one changes nothing.
+#![tactic(auto)]
+
 ghost use Rattle.std.specs.Prelude.{◌≡◌, eqb};
 ghost use Rattle.sets.specs.Bits.{member, union, intersection, difference, inserted, removed, all_below, lowest};
 

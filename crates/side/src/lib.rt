@@ -1,4 +1,6 @@
 // Sides of equations: a permutation and a node, with the node's form beside it, and what a side is once bound variables are replaced by their values.
+#![tactic(auto)]
+
 ghost use Rattle.std.specs.Prelude.{◌≡◌, ◌<◌, length};
 ghost use Rattle.permutation.specs.Store.{table};
 ghost use Rattle.problem.specs.Held.{problem_of};

@@ -1,4 +1,6 @@
 // One problem on standard input, the solver's lines on standard output. An input over 65,535 bytes fills the room of 65,536, and the solver refuses it.
+#![tactic(auto)]
+
 ghost use Rattle.std.specs.Prelude.{◌*◌, ◌≤◌, length};
 ghost use Rattle.run.specs.Answer as run;
 ghost use Rattle.intake.specs.Fills.{Fills};

@@ -3,6 +3,7 @@
 //
 // An equation that is pushed or read whole has whole rows, whatever the number of atoms in use: so its functions do not take that number, and their
 // contracts are for all. Of one that is changed where it lies single images are looked at: there the number says which atoms have one.
+#![tactic(auto)]
 
 ghost use Rattle.std.specs.Prelude.{◌≡◌, ◌+◌, ◌≤◌, ◌<◌, length, set, get_or, [], ◌∷◌};
 ghost use Rattle.permutation.specs.Table.{image, inverted, disagreement};

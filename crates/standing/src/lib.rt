@@ -1,4 +1,6 @@
 // How a stream stands after a turn: it goes on only after a problem that came whole and a writing that was whole. Where it is cut, a line says so.
+#![tactic(auto)]
+
 ghost use Rattle.std.specs.Prelude.{◌≡◌, cond, ◌≤◌, length};
 ghost use Rattle.printer.specs.Lines.{cut_line};
 ghost use Rattle.standing.specs.Settled.{Handed, Settled};

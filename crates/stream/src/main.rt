@@ -1,6 +1,8 @@
 // A stream of problems on standard input, each after its length in four bytes, high byte first. For each the solver's lines, the judge's line and
 // an empty line on standard output, in order, before the next is read: so nothing grows with their number, and a stream that is cut loses nothing
 // before the cut. After a write that failed nothing more is read or written. The work tables are made once.
+#![tactic(auto)]
+
 ghost use Rattle.std.specs.Prelude.{◌+◌, ◌*◌, ◌≤◌, length};
 ghost use Rattle.standing.specs.Settled.{Ends};
 ghost use Rattle.stream.specs.Turned.{Turned};

@@ -1,4 +1,6 @@
 // By node the set of the variables that occur in it, made from the sets of its parts as the nodes are read. What lies where is known here alone.
+#![tactic(auto)]
+
 ghost use Rattle.std.specs.Prelude.{◌≡◌, ◌<◌, length, set};
 ghost use Rattle.variables.specs.Variables.{set_of};
 

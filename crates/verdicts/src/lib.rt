@@ -1,4 +1,5 @@
 // What the solver and the judge give back for a problem that was read: the run under their protection, and what comes after its end.
+#![tactic(auto)]
 
 pub mod running; // running.rt: the run of a problem that was read
 pub mod solving; // solving.rt: the solver after its reader

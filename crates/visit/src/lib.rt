@@ -1,5 +1,6 @@
 // Going through the parts of one node with a set of atoms, by 003's freshness rules: of each node the set of atoms that were seen there is kept, all
 // atoms of a set are passed on to a node's parts together, and no pair of atom and node is looked at twice.
+#![tactic(auto)]
 
 ghost use Rattle.std.specs.Prelude.{◌≡◌, true, ℕ, ◌/◌, ◌≤◌, ◌<◌, length, get_or};
 ghost use Rattle.permutation.specs.Swaps.{Within, swaps_in, act, swapped};
