@@ -32,14 +32,14 @@ pub type Values = [Row; MOST_VARIABLES];
 pub const EMPTY_VALUES: Values = [rows::EMPTY; MOST_VARIABLES];
 
 // "The binding holds the right side's node and the images acting on it from outside."
-#[derive(Drop)]
+#[derive(Clone, Copy)]
 pub struct Value {
     pub images: Permutation,
     pub node: NodeId,
 }
 
 // What a variable is bound to, if it is bound: otherwise the value says nothing.
-#[derive(Drop)]
+#[derive(Clone, Copy)]
 pub struct Found {
     pub bound: bool,
     pub value: Value,

@@ -11,7 +11,7 @@ ghost use Rattle.descriptor.specs.Answers.{moved_of, failed_of, fault_of, passes
 use libc::types::timespec;
 
 // How many bytes the call was asked to move, and what it answered: how many it moved, or a negative number where it failed.
-#[derive(Drop)]
+#[derive(Clone, Copy)]
 pub struct Answer {
     asked: usize,
     got: isize,
@@ -40,7 +40,7 @@ pub fn moved(answer: Answer) -> usize
 }
 
 // Why a call failed: a signal came before anything was moved, nothing can be moved now, or something that does not pass.
-#[derive(Drop)]
+#[derive(Clone, Copy)]
 enum Fault {
     Interrupted,
     Busy,

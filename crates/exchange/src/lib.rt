@@ -12,14 +12,14 @@ use numbers::Given;
 use outlet::Taken;
 
 // What was given back for a problem, and where the lines that it prints end.
-#[derive(Drop)]
+#[derive(Clone, Copy)]
 pub struct Worked {
     pub given: Given,
     pub end: usize,
 }
 
 // How the problem was read, what there was to say of its answer, where the answer's lines end, and what was written of them.
-#[derive(Drop)]
+#[derive(Clone, Copy)]
 pub struct Served {
     pub filled: Filled,
     pub notice: Notice,

@@ -8,7 +8,7 @@ ghost use Rattle.field.specs.Field.{word, long};
 ghost use Rattle.field.specs.Front.{front_of};
 
 // A whole field with its tag and the length of its body; a field that is cut short; nothing.
-#[derive(Drop)]
+#[derive(Clone, Copy)]
 pub enum AtFront {
     Whole(u8, usize),
     Cut,

@@ -7,7 +7,7 @@ ghost use Rattle.frames.specs.Came.{Told};
 use intake::Filled;
 
 // How the next problem came: whole, in so many of the lent bytes; the stream ended before it, or inside its length or its bytes; a read failed.
-#[derive(Drop)]
+#[derive(Clone, Copy)]
 pub enum Came {
     Whole(usize),
     End,
@@ -16,7 +16,7 @@ pub enum Came {
 }
 
 // How the next problem came, and the reading that told it: how many bytes it wanted, and what came of them.
-#[derive(Drop)]
+#[derive(Clone, Copy)]
 pub struct Reading {
     pub came: Came,
     pub wanted: usize,

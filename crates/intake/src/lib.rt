@@ -7,7 +7,7 @@ ghost use Rattle.intake.specs.Fills.{Fills};
 use descriptor::Answer;
 
 // How many bytes came, whether the input could be read up to there, and what the last read answered.
-#[derive(Drop)]
+#[derive(Clone, Copy)]
 pub struct Filled {
     pub count: usize,
     pub failed: bool,

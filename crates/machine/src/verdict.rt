@@ -19,7 +19,7 @@ use variables::NodeVariables;
 
 // How a run ends: 0 (accepted), 8 (limit), 9 (clash), 10 (a variable inside its own value) or 11 (protected), each but the first with the number of the
 // equation. With it the steps taken, which variables are bound, and how many.
-#[derive(Drop)]
+#[derive(Clone, Copy)]
 pub struct Ran {
     pub verdict: Given,
     pub steps: u32,

@@ -7,7 +7,7 @@ ghost use Rattle.sets.specs.Bits.{among};
 ghost use Rattle.notice.specs.Notices.{plain, in_comment, looks, is_text, no_problem, notice_of};
 
 // What there is to say of an answer: text means that a problem was refused which looks like hexadecimal text.
-#[derive(Drop)]
+#[derive(Clone, Copy)]
 pub enum Notice {
     Nothing,
     Refused,

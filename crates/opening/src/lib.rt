@@ -7,7 +7,7 @@ ghost use Rattle.opening.specs.Head.{head_said, opening_of};
 use field::AtFront;
 
 // A good head's atoms, variables and step limit; no good head; a field that is cut.
-#[derive(Drop)]
+#[derive(Clone, Copy)]
 pub enum Opening {
     Good(u8, u8, u32),
     NoHead,

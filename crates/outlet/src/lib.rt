@@ -8,7 +8,7 @@ use descriptor::Answer;
 
 // How many bytes were taken, whether that is all, and what the last write answered. It can be made here alone, so that none stands for a write that
 // was not made.
-#[derive(Drop)]
+#[derive(Clone, Copy)]
 pub struct Taken {
     count: usize,
     whole: bool,

@@ -26,7 +26,7 @@ use side::Side;
 use stack::{Heads, Images, Pending};
 
 // How far the run is: how many equations wait, which variables are bound, and how many.
-#[derive(Drop)]
+#[derive(Clone, Copy)]
 pub struct State {
     pub waiting: usize,
     pub bound: VariableSet,
@@ -34,14 +34,14 @@ pub struct State {
 }
 
 // How a step ends: it goes on, or refuses with its number, 9, 10 or 11.
-#[derive(Drop)]
+#[derive(Clone, Copy)]
 pub enum Outcome {
     Goes,
     Refuses(u8),
 }
 
 // With it how far the run is then: if the step refuses, as far as before.
-#[derive(Drop)]
+#[derive(Clone, Copy)]
 pub struct Stepped {
     pub outcome: Outcome,
     pub state: State,

@@ -325,6 +325,7 @@ members_kept i zero w = refl
 members_kept i (suc n) w = rw (members_kept (suc i) n w)
 
 among_mem : (a : ℕ) (l : List ℕ) → Memᴰ a l → among a l ≡ true
+among_mem a [] k = elim k [ ]
 among_mem a (b ∷ l) (Memᴰ.head e) = rw (eq-eqb a b e)
 among_mem a (b ∷ l) (Memᴰ.tail k) = by_eq a b (λ e. rw (eq-eqb a b e)) (λ n. rw (ne_eqb a b n) (among_mem a l k))
 

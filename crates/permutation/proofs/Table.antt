@@ -254,6 +254,7 @@ mem_from i zero a h k = absurd (omega arith)
 mem_from i (suc n) a h k = by_eq a i Memᴰ.head (λ m. Memᴰ.tail (mem_from (suc i) n a (omega arith) (omega arith)))
 
 pub mem_from_inside : (i n a : ℕ) → Memᴰ a (from i n) → (i ≤ a) × (a < i + n)
+mem_from_inside i zero a k = elim k [ ]
 mem_from_inside i (suc n) a (Memᴰ.head e) = (omega arith, omega arith)
 mem_from_inside i (suc n) a (Memᴰ.tail k) = let (h, l) = mem_from_inside (suc i) n a k in (omega arith, omega arith)
 

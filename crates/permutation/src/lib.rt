@@ -12,7 +12,7 @@ ghost use Rattle.sets.specs.Bits.{of_list};
 use names::{Atom, MOST_ATOMS};
 use sets::AtomSet;
 
-#[derive(Drop)]
+#[derive(Clone, Copy)]
 pub struct Permutation {
     pub images: [u8; MOST_ATOMS],
 }

@@ -222,7 +222,7 @@ pub fn cut_line(out: &mut [u8], at: usize, count: usize) -> usize
 }
 
 // What a printed line says.
-#[derive(Drop)]
+#[derive(Clone, Copy)]
 pub enum Kind {
     Accepted,
     Refused,

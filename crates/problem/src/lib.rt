@@ -27,7 +27,7 @@ pub type Assumed = [u32; MOST_VARIABLES];
 pub const EMPTY_ASSUMED: Assumed = [0; MOST_VARIABLES];
 
 // A node's form. A suspension's swaps stay in the bytes: `look::swaps_of` hands them back as a part of the input.
-#[derive(Drop)]
+#[derive(Clone, Copy)]
 pub enum Form {
     Unit,
     Atom(Atom),
@@ -38,7 +38,7 @@ pub enum Form {
 }
 
 // A problem's numbers. Its fields stay in the input, and the tables say where.
-#[derive(Drop)]
+#[derive(Clone, Copy)]
 pub struct Counts {
     pub atoms: u8,
     pub variables: u8,

@@ -11,13 +11,13 @@ use field::word;
 use names::{Atom, NodeId, Variable};
 use sets::AtomSet;
 
-#[derive(Drop)]
+#[derive(Clone, Copy)]
 pub struct Equation {
     pub left: NodeId,
     pub right: NodeId,
 }
 
-#[derive(Drop)]
+#[derive(Clone, Copy)]
 pub struct Freshness {
     pub atom: Atom,
     pub node: NodeId,

@@ -27,14 +27,14 @@ use sets::VariableSet;
 use stack::{Heads, Images};
 
 // How many equations wait then, and how many steps were taken.
-#[derive(Drop)]
+#[derive(Clone, Copy)]
 pub struct Went {
     pub waiting: usize,
     pub steps: u32,
 }
 
 // What becomes of two nodes that meet: the equation is left as it is, it is done, or it goes on with one part of each, or with two.
-#[derive(Drop)]
+#[derive(Clone, Copy)]
 enum Meeting {
     Leave,
     Done,

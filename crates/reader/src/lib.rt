@@ -28,7 +28,7 @@ const MOST_EQUATIONS: u8 = 64;
 const MOST_FRESHNESS: u8 = 64;
 
 // What becomes of an input: a problem, or one of document 01's refusals 1 to 7.
-#[derive(Drop)]
+#[derive(Clone, Copy)]
 pub enum Reading {
     Read(Counts),
     Refused(Given),

@@ -19,7 +19,7 @@ use variables::NodeVariables;
 const MOST_NODES: u16 = 512;
 
 // Where the first field stands that is not such a node, how many nodes there are then, and that field's first eight bytes.
-#[derive(Drop)]
+#[derive(Clone, Copy)]
 pub struct Reached {
     pub place: usize,
     pub nodes: u16,

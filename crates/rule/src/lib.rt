@@ -19,7 +19,7 @@ use side::Side;
 use variables::NodeVariables;
 
 // What a step does: it is done, it refuses, it goes on with parts of both sides, it demands, or it binds.
-#[derive(Drop)]
+#[derive(Clone, Copy)]
 pub enum Act {
     Done,
     Clash,

@@ -15,7 +15,7 @@ const MOST_EQUATIONS: u8 = 64;
 const MOST_FRESHNESS: u8 = 64;
 
 // How many there are so far: all that decides whether a field is at fault.
-#[derive(Drop)]
+#[derive(Clone, Copy)]
 pub struct Sizes {
     pub atoms: u8,
     pub variables: u8,
@@ -24,7 +24,7 @@ pub struct Sizes {
     pub freshness: u8,
 }
 
-#[derive(Drop)]
+#[derive(Clone, Copy)]
 pub enum Said {
     Node,
     Equation,

@@ -10,10 +10,10 @@ ghost use Rattle.sets.specs.Bits.{member, union, intersection, difference, inser
 
 use names::{Atom, Variable};
 
-#[derive(Drop)]
+#[derive(Clone, Copy)]
 pub struct AtomSet(pub u32);
 
-#[derive(Drop)]
+#[derive(Clone, Copy)]
 pub struct VariableSet(pub u64);
 
 impl AtomSet {

@@ -15,7 +15,7 @@ use problem::{Form, Places};
 use sets::VariableSet;
 
 // "Each side is a permutation and a node."
-#[derive(Drop)]
+#[derive(Clone, Copy)]
 pub struct Side {
     pub images: Permutation,
     pub node: NodeId,

@@ -33,7 +33,7 @@ pub type Images = [[Row; 2]; ROOM];
 pub const EMPTY_IMAGES: Images = [[rows::EMPTY; 2]; ROOM];
 
 // "Each side is a permutation and a node", and "what comes of an equation keeps its number".
-#[derive(Drop)]
+#[derive(Clone, Copy)]
 pub struct Pending {
     pub number: u8,
     pub left: Permutation,
@@ -136,7 +136,7 @@ pub fn start(s: &[u8], places: &Places, heads: &mut Heads, images: &mut Images, 
 }
 
 // What stands of an equation beside its rows: its number, and the nodes of its two sides.
-#[derive(Drop)]
+#[derive(Clone, Copy)]
 pub struct Nodes {
     pub number: u8,
     pub left: NodeId,

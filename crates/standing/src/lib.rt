@@ -9,14 +9,14 @@ use frames::{Came, Reading};
 use outlet::Taken;
 
 // One turn: how the problem came, and what became of writing its block.
-#[derive(Drop)]
+#[derive(Clone, Copy)]
 pub struct Outcome {
     pub reading: Reading,
     pub taken: Taken,
 }
 
 // How the stream stands: it goes on, it was gone through, it is cut, or standard input or output failed.
-#[derive(Drop)]
+#[derive(Clone, Copy)]
 pub enum How {
     Open,
     Through,
@@ -26,7 +26,7 @@ pub enum How {
 }
 
 // How the stream stands, and what became of the last writing.
-#[derive(Drop)]
+#[derive(Clone, Copy)]
 pub struct Ending {
     pub how: How,
     pub taken: Taken,

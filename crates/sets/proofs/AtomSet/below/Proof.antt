@@ -5,16 +5,16 @@ use Rattle.sets.proofs.Bits.{below_shift, below_full, shifted_positive}
 use Rattle.sets.proofs.AtomSet.below.Statement.{statement}
 use Rattle.sets.proofs.AtomSet.below.Tie as tie
 
-shl_t5 : tie.Need-overflow-shl-t5
+shl_t5 : tie.Need-overflow_shl-result
 shl_t5 c = search rules
 
-sub_t6 : tie.Need-overflow-sub-t6
+sub_t6 : tie.Need-overflow_sub-result
 sub_t6 c = shifted_positive 32 c.before.args.n (omega arith)
 
-returns : tie.Need-returns
+returns : tie.Need-returns-then-n-lt32
 returns c = below_shift 32 c.before.args.n (omega arith)
 
-returns_2 : tie.Need-returns-2
+returns_2 : tie.Need-returns-else-n-lt32
 returns_2 c = below_full 32 c.before.args.n (omega arith)
 
 pub below_spec : {M : Type 1} → statement M

@@ -6,7 +6,7 @@ use Rattle.sets.specs.Bits.{lowest}
 use Rattle.sets.proofs.AtomSet.lowest.Statement.{statement}
 use Rattle.sets.proofs.AtomSet.lowest.Tie as tie
 
-cast_t3 : tie.Need-overflow-cast-t3
+cast_t3 : tie.Need-overflow_cast-result
 cast_t3 c = omega (arith, trailing_le 32 c.before.args.self.0)
 
 returns : tie.Need-returns

@@ -6,13 +6,13 @@ use Rattle.sets.proofs.Bits.{and_pred, removed_le}
 use Rattle.sets.proofs.AtomSet.without_lowest.Statement.{statement}
 use Rattle.sets.proofs.AtomSet.without_lowest.Tie as tie
 
-sub_t4 : tie.Need-overflow-sub-t4
+sub_t4 : tie.Need-overflow_sub-result
 sub_t4 c = search rules
 
-returns : tie.Need-returns
+returns : tie.Need-returns-then-self-eq0
 returns c = omega (arith, removed_le c.before.before.args.self.0 (lowest 32 c.before.before.args.self.0))
 
-returns_2 : tie.Need-returns-2
+returns_2 : tie.Need-returns-else-self-eq0
 returns_2 c = and_pred 32 c.before.before.before.before.args.self.0 (omega arith) (omega arith)
 
 pub without_lowest_spec : {M : Type 1} → statement M

@@ -6,18 +6,18 @@ use Rattle.sets.proofs.Bits.{or_shift, inserted_past}
 use Rattle.sets.proofs.VariableSet.with.Statement.{statement}
 use Rattle.sets.proofs.VariableSet.with.Tie as tie
 
-cast_t5 : tie.Need-overflow-cast-t5
+cast_t5 : tie.Need-overflow_cast-result
 cast_t5 c = search rules
 
-shl_t6 : tie.Need-overflow-shl-t6
+shl_t6 : tie.Need-overflow_shl-result
 shl_t6 c = search rules
 
-returns : tie.Need-returns
+returns : tie.Need-returns-then-x-lt64
 returns c =
     let at_start = c.before.before.before.before in
     or_shift 64 at_start.args.self.0 at_start.args.x.0 (omega arith)
 
-returns_2 : tie.Need-returns-2
+returns_2 : tie.Need-returns-else-x-lt64
 returns_2 c = sym (inserted_past 64 c.before.before.args.self.0 c.before.before.args.x.0 (omega arith))
 
 pub with_spec : {M : Type 1} → statement M

@@ -6,18 +6,18 @@ use Rattle.sets.proofs.Bits.{and_not_shift, removed_past}
 use Rattle.sets.proofs.VariableSet.without.Statement.{statement}
 use Rattle.sets.proofs.VariableSet.without.Tie as tie
 
-cast_t5 : tie.Need-overflow-cast-t5
+cast_t5 : tie.Need-overflow_cast-result
 cast_t5 c = search rules
 
-shl_t6 : tie.Need-overflow-shl-t6
+shl_t6 : tie.Need-overflow_shl-result
 shl_t6 c = search rules
 
-returns : tie.Need-returns
+returns : tie.Need-returns-then-x-lt64
 returns c =
     let at_start = c.before.before.before.before in
     and_not_shift 64 at_start.args.self.0 at_start.args.x.0 (omega arith) (omega arith)
 
-returns_2 : tie.Need-returns-2
+returns_2 : tie.Need-returns-else-x-lt64
 returns_2 c = sym (removed_past 64 c.before.before.args.self.0 c.before.before.args.x.0 (omega arith) (omega arith))
 
 pub without_spec : {M : Type 1} → statement M
