@@ -18,7 +18,7 @@ TOP = os.path.dirname(os.path.dirname(os.path.abspath(__file__)))
 OWN = set(os.listdir(os.path.join(TOP, "crates")))
 PAGES = ["README.md", "tests/README.md"] + ["docs/%s.md" % page for page in ("ARCHITECTURE", "DECISIONS", "FORMAT", "PERFORMANCE", "PROVED")]
 TOKEN = re.compile(r"[^\s(){}\[\];,.\"`«»]+")
-USE = re.compile(r"^(?:ghost )?use ([^\s{};]+?)(?:\.\{([^}]*)\}| as (\S+))?;?$", re.MULTILINE | re.DOTALL)
+USE = re.compile(r"^(?:ghost )?use ([^\s{};]+?)(?:\.\{([^}]*)\}| as ([^\s;]+))?;?$", re.MULTILINE | re.DOTALL)
 GENERATED = {"Tie", "Goals", "Given", "Statement", "Lts", "declared", "contracts"}
 # Names whose plain respelling another name has already: a lemma that would have its function's name ends in _lem.
 CHOSEN = {name: name.replace("-", "_") + "_lem" for name in (
@@ -90,14 +90,25 @@ def own_fields(texts):
     return names
 
 
+def own_rooms(text):
+    """The short names under which a file has modules of the repository's own."""
+    return {alias for path, _, alias in USE.findall(text) if alias and path.split(".")[:1] == ["Rattle"] and path.split(".")[1] in OWN
+            and not GENERATED & set(path.split("."))}
+
+
 def places(text, mark, fields, not_own):
     """Each place of a name that may be respelled: (start, end, name), comments' backquotes too."""
     at = 0
+    rooms = own_rooms(text)
     for code, comment in split(text, mark):
         paths = [found.span(1) for found in USE.finditer(code)]
         for found in TOKEN.finditer(code):
             start, name = found.start(), found[0]
             if any(a <= start < b for a, b in paths):
+                continue
+            inside = re.search(r"(?<![^\s(){}\[\];,.])([^\s(){}\[\];,.]+)\.$", code[:start][-60:])
+            if inside and inside[1] in rooms:
+                yield at + start, at + found.end(), name
                 continue
             if start and code[start - 1] == "." and not code[:start].endswith("..") and name not in fields:
                 if "-" in name and name.replace("-", "_") in RUST:
@@ -127,7 +138,8 @@ def main():
         for _, _, name in places(text, "--", fields, foreign(text)):
             names[name] += 1
             here[path].add(name)
-    old = {name for name in names if is_old(name)}
+    # One that is spelled anew already has its old spelling by right.
+    old = {name for name in names if is_old(name) and not (name in CHOSEN and CHOSEN[name] in names)}
     # Names that fall together: two old ones with one new spelling, or a new spelling that stands in the same file already.
     clash = collections.defaultdict(set)
     for path, found in here.items():

@@ -68,22 +68,22 @@ module _ {p : Problem} (r : Readable p) {t : Bindings} {count bound : ℕ} {aske
   -- ---- the judge
 
   module _ {after : List ℕ} {fails : Bool} (o : Outcome p bindings (of_file ++ raised) bound after fails) where
-    pub judge_not_fresh : {g : Given} → fails ≡ true → g ≡ record { number = 14; place = 0 } → judgement_given g ≡ run.judgementOf p (end_in e)
-    unfolding run.judgementOf
+    pub judge_not_fresh : {g : Given} → fails ≡ true → g ≡ record { number = 14; place = 0 } → judgement_given g ≡ run.judgement_of p (end_in e)
+    unfolding run.judgement_of
     judge_not_fresh q given_is = rw (given_is, o.not_fresh q)
 
     module _ (quiet : fails ≡ false) (narrow : Words after) (assumed : List ℕ)
         (held : (a X : ℕ) → X < p.variables → member (get_or assumed X 0) a ≡ assumes p.assumptions a X) {variables : ℕ}
         (all_variables : variables ≡ p.variables) {all : Bool} (found : all ≡ covered variables bound after assumed) where
-      decided : run.judgementOf p (end_in e) ≡ cond all (0, 0) (14, 0)
-      unfolding run.judgementOf
+      decided : run.judgement_of p (end_in e) ≡ cond all (0, 0) (14, 0)
+      unfolding run.judgement_of
       decided =
           let (fs, q, says, few) = o.facts quiet in
           let c = all_assumed bound after assumed narrow p.variables p.assumptions fs held says few in
           rw (q, c, sym all_variables, sym found)
 
-      pub judge_holds : {g : Given} → all ≡ true → g ≡ record { number = 0; place = 0 } → judgement_given g ≡ run.judgementOf p (end_in e)
+      pub judge_holds : {g : Given} → all ≡ true → g ≡ record { number = 0; place = 0 } → judgement_given g ≡ run.judgement_of p (end_in e)
       judge_holds q given_is = rw given_is (sym (decided ∙ rw q))
 
-      pub judge_does_not : {g : Given} → all ≡ false → g ≡ record { number = 14; place = 0 } → judgement_given g ≡ run.judgementOf p (end_in e)
+      pub judge_does_not : {g : Given} → all ≡ false → g ≡ record { number = 14; place = 0 } → judgement_given g ≡ run.judgement_of p (end_in e)
       judge_does_not q given_is = rw given_is (sym (decided ∙ rw q))

@@ -63,4 +63,4 @@ SomeEnded p t bound asked = (count : ℕ) × (steps : ℕ) × Ended p t count bo
 
 abbrev pub Judges : Problem → Bindings → ℕ → List (List ℕ) → Given → Type 0
 Judges p t bound asked r =
-    (count steps : ℕ) (e : Ended p t count bound asked steps) → judgement_given r ≡ run.judgementOf p (end_in e)
+    (count steps : ℕ) (e : Ended p t count bound asked steps) → judgement_given r ≡ run.judgement_of p (end_in e)

@@ -69,49 +69,49 @@ pub fn eight(s: &[u8]) -> u64
 }
 
 pub fn tag(w: u64) -> u8
-    ensures { result ≡ opened.tagIn w }
+    ensures { result ≡ opened.tag_in w }
 {
     (w / 72057594037927936) as u8
 }
 
 pub fn length(w: u64) -> usize
-    ensures { (result ≡ opened.lengthIn w) × (result < 65536) }
+    ensures { (result ≡ opened.length_in w) × (result < 65536) }
 {
     (w / 1099511627776 % 65536) as usize
 }
 
 pub fn key(w: u64) -> u64
-    ensures { result ≡ opened.keyIn w }
+    ensures { result ≡ opened.key_in w }
 {
     w / 1099511627776
 }
 
 pub fn first_byte(w: u64) -> u8
-    ensures { result ≡ opened.firstByteIn w }
+    ensures { result ≡ opened.first_byte_in w }
 {
     (w / 4294967296 % 256) as u8
 }
 
 pub fn second_byte(w: u64) -> u8
-    ensures { result ≡ opened.secondByteIn w }
+    ensures { result ≡ opened.second_byte_in w }
 {
     (w / 16777216 % 256) as u8
 }
 
 pub fn first_two(w: u64) -> u16
-    ensures { result ≡ opened.firstTwoIn w }
+    ensures { result ≡ opened.first_two_in w }
 {
     (w / 16777216 % 65536) as u16
 }
 
 pub fn middle_two(w: u64) -> u16
-    ensures { result ≡ opened.middleTwoIn w }
+    ensures { result ≡ opened.middle_two_in w }
 {
     (w / 65536 % 65536) as u16
 }
 
 pub fn last_two(w: u64) -> u16
-    ensures { result ≡ opened.lastTwoIn w }
+    ensures { result ≡ opened.last_two_in w }
 {
     (w / 256 % 65536) as u16
 }

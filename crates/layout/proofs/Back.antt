@@ -39,7 +39,7 @@ length_swap_bytes : (π : Swaps) → length (swap_bytes π) ≡ length π + leng
 length_swap_bytes [] = refl
 length_swap_bytes (s ∷ π) = let e = length_swap_bytes π in omega arith
 
-pub item_back : (i : Item) → fields.ItemHasRoom i → item (fields.itemTag i) (fields.itemBody i) ≡ i
+pub item_back : (i : Item) → fields.ItemHasRoom i → item (fields.item_tag i) (fields.item_body i) ≡ i
 unfolding item bytes2
 item_back (node unit_form) h = refl
 item_back (node (atom_form a)) h = refl
@@ -53,7 +53,7 @@ item_back (assumption a X) h = refl
 item_back (protection X) h = refl
 
 -- Its tag is known, its length fits, and the field at the front is it.
-pub tag_known : (i : Item) → base_tags (fields.itemTag i) ≡ true
+pub tag_known : (i : Item) → base_tags (fields.item_tag i) ≡ true
 unfolding base_tags
 tag_known (node unit_form) = refl
 tag_known (node (atom_form a)) = refl
@@ -66,7 +66,7 @@ tag_known (freshness a n) = refl
 tag_known (assumption a X) = refl
 tag_known (protection X) = refl
 
-body_short : (i : Item) → fields.ItemHasRoom i → length (fields.itemBody i) < 65536
+body_short : (i : Item) → fields.ItemHasRoom i → length (fields.item_body i) < 65536
 unfolding bytes2
 body_short (node unit_form) h = omega arith
 body_short (node (atom_form a)) h = omega arith
@@ -79,33 +79,33 @@ body_short (freshness a n) h = omega arith
 body_short (assumption a X) h = omega arith
 body_short (protection X) h = omega arith
 
-pub item_front : (i : Item) (rest : List ℕ) → fields.ItemHasRoom i → front (item_field i ++ rest) ≡ whole (fields.itemTag i) (fields.itemBody i) rest
-item_front i rest h = field_front (fields.itemTag i) (fields.itemBody i) rest (body_short i h)
+pub item_front : (i : Item) (rest : List ℕ) → fields.ItemHasRoom i → front (item_field i ++ rest) ≡ whole (fields.item_tag i) (fields.item_body i) rest
+item_front i rest h = field_front (fields.item_tag i) (fields.item_body i) rest (body_short i h)
 
 -- ---- an answer's fields
 
-pub part_back : (p : Part) → parts.PartHasRoom p → part (parts.partTag p) (parts.partBody p) ≡ p
+pub part_back : (p : Part) → parts.PartHasRoom p → part (parts.part_tag p) (parts.part_body p) ≡ p
 unfolding part bytes4 bytes2
 part_back (steps n) h = ap steps (omega arith)
 part_back (binding X n images) h = rw (two_bytes n h.0)
 part_back (fact a X) h = refl
 
-pub part_fits_lem : (p : Part) → part_fits (parts.partTag p) (length (parts.partBody p)) ≡ true
+pub part_fits_lem : (p : Part) → part_fits (parts.part_tag p) (length (parts.part_body p)) ≡ true
 unfolding part_fits bytes4 bytes2
 part_fits_lem (steps n) = refl
 part_fits_lem (binding X n images) = le-leb 3 (length (X ∷ bytes2 n ++ images)) (omega arith)
 part_fits_lem (fact a X) = refl
 
-part_short : (p : Part) → parts.PartHasRoom p → length (parts.partBody p) < 65536
+part_short : (p : Part) → parts.PartHasRoom p → length (parts.part_body p) < 65536
 unfolding bytes4 bytes2
 part_short (steps n) h = omega arith
 part_short (binding X n images) h = let (k, l) = h in omega arith
 part_short (fact a X) h = omega arith
 
-pub part_front : (p : Part) (rest : List ℕ) → parts.PartHasRoom p → front (part_field p ++ rest) ≡ whole (parts.partTag p) (parts.partBody p) rest
-part_front p rest h = field_front (parts.partTag p) (parts.partBody p) rest (part_short p h)
+pub part_front : (p : Part) (rest : List ℕ) → parts.PartHasRoom p → front (part_field p ++ rest) ≡ whole (parts.part_tag p) (parts.part_body p) rest
+part_front p rest h = field_front (parts.part_tag p) (parts.part_body p) rest (part_short p h)
 
-parts_onward : (k : ℕ) (s : List ℕ) (p : Part) (ps : List Part) (rest : List ℕ) → front s ≡ whole (parts.partTag p) (parts.partBody p) rest
+parts_onward : (k : ℕ) (s : List ℕ) (p : Part) (ps : List Part) (rest : List ℕ) → front s ≡ whole (parts.part_tag p) (parts.part_body p) rest
     → parts.PartHasRoom p
     → parts_from k rest ≡ some ps → part_then (λ r. parts_from k r) (front s) ≡ some (p ∷ ps)
 parts_onward k s p ps rest e h q = rw (e, part_fits_lem p, part_back p h, q)

@@ -32,15 +32,15 @@ pub fn step(
     e: Pending,
 ) -> Stepped
     requires { Present s.now places.now node_variables.now atoms protected.0
-        (pending.stackTables heads.old images.old) (bindings.bindingTables made.old values.old) state e }
+        (pending.stack_tables heads.old images.old) (bindings.binding_tables made.old values.old) state e }
     ensures { Performed s.now atoms e.number
-        (tables_of (pending.stackTables heads.old images.old)
-        (bindings.bindingTables made.old values.old)
+        (tables_of (pending.stack_tables heads.old images.old)
+        (bindings.binding_tables made.old values.old)
         (sheet asked.old firsts.old)) state
-        (tables_of (pending.stackTables heads.new images.new)
-        (bindings.bindingTables made.new values.new)
+        (tables_of (pending.stack_tables heads.new images.new)
+        (bindings.binding_tables made.new values.new)
         (sheet asked.new firsts.new)) result
-        (step_here s.now atoms protected.0 (bindings.bindingTables made.old values.old) state e) }
+        (step_here s.now atoms protected.0 (bindings.binding_tables made.old values.old) state e) }
 {
     let p = e.left;
     let l = e.left_node;

@@ -44,14 +44,14 @@ fn go(
     start: State,
     limit: u32,
 ) -> Ran
-    requires { Began s.now places.now node_variables.now atoms (pending.stackTables heads.old images.old)
-        (bindings.bindingTables made.old values.old) (sheet asked.old firsts.old) start }
+    requires { Began s.now places.now node_variables.now atoms (pending.stack_tables heads.old images.old)
+        (bindings.binding_tables made.old values.old) (sheet asked.old firsts.old) start }
     ensures { RunEnded s.now atoms limit
-        (tables_of (pending.stackTables heads.new images.new)
-        (bindings.bindingTables made.new values.new)
+        (tables_of (pending.stack_tables heads.new images.new)
+        (bindings.binding_tables made.new values.new)
         (sheet asked.new firsts.new)) result
         (end_of s.now protected.0 limit
-        (bindings.bindingsOf atoms (bindings.bindingTables made.old values.old) start.count)) }
+        (bindings.bindings_of atoms (bindings.binding_tables made.old values.old) start.count)) }
 {
     let mut state = start;
     let mut steps: u32 = 0;
@@ -117,13 +117,13 @@ pub fn run(
     count: usize,
 ) -> Ran
     requires ready { Ready s.now places.now node_variables.now c }
-    requires founded { Founded (problem_of s.now) (bindings.bindingTables made.old values.old) count bound.0 }
+    requires founded { Founded (problem_of s.now) (bindings.binding_tables made.old values.old) count bound.0 }
     ensures { RunEnded s.now c.atoms c.limit
-        (tables_of (pending.stackTables heads.new images.new)
-        (bindings.bindingTables made.new values.new)
+        (tables_of (pending.stack_tables heads.new images.new)
+        (bindings.binding_tables made.new values.new)
         (sheet asked.new firsts.new)) result
         (end_of s.now protected.0 c.limit
-        (bindings.bindingsOf c.atoms (bindings.bindingTables made.old values.old) count)) }
+        (bindings.bindings_of c.atoms (bindings.binding_tables made.old values.old) count)) }
 {
     let equations = c.equations as usize;
     demands::clear(asked, c.nodes as usize, c.variables as usize);

@@ -58,10 +58,10 @@ fn one_part(
     q: Permutation,
     k: NodeId,
 )
-    requires { n < pending.mostWaiting }
+    requires { n < pending.most_waiting }
     ensures { (A : ℕ) → A ≤ 32 → StackGrown A number ((side_at A p m, side_at A q k) ∷ [])
-        (pending.stackTables heads.old images.old) n
-        (pending.stackTables heads.new images.new) (n + 1) }
+        (pending.stack_tables heads.old images.old) n
+        (pending.stack_tables heads.new images.new) (n + 1) }
 {
     let e = Pending {
         number: number,
@@ -86,10 +86,10 @@ fn two_parts(
     k: NodeId,
     o: NodeId,
 )
-    requires { n + 1 < pending.mostWaiting }
+    requires { n + 1 < pending.most_waiting }
     ensures { (A : ℕ) → A ≤ 32 → StackGrown A number ((side_at A p l, side_at A q k) ∷ (side_at A p m, side_at A q o) ∷ [])
-        (pending.stackTables heads.old images.old) n
-        (pending.stackTables heads.new images.new) (n + 2) }
+        (pending.stack_tables heads.old images.old) n
+        (pending.stack_tables heads.new images.new) (n + 2) }
 {
     one_part(heads, images, n, number, p, m, q, o);
     one_part(heads, images, n + 1, number, p, l, q, k);
@@ -175,8 +175,8 @@ fn bind(
         × bindings.Keeps made.old state.count state.bound.0 × (member state.bound.0 x.0 ≡ false) × (x.0 < 64) }
     ensures { BoundTo atoms number x.0
         (under (inverted (whole_of s.now atoms (table atoms p) m.0)) (side_at atoms q k))
-        (bindings.bindingTables made.old values.old) state
-        (bindings.bindingTables made.new values.new) result }
+        (bindings.binding_tables made.old values.old) state
+        (bindings.binding_tables made.new values.new) result }
 {
     let outer = side::whole(s, places, atoms, p, m);
     let images = under_inverse(outer, q, atoms);
@@ -211,11 +211,11 @@ pub fn perform(
 ) -> Stepped
     requires { Fit s.now places.now atoms state made.old left right act }
     ensures { Performed s.now atoms number
-        (tables_of (pending.stackTables heads.old images.old)
-        (bindings.bindingTables made.old values.old)
+        (tables_of (pending.stack_tables heads.old images.old)
+        (bindings.binding_tables made.old values.old)
         (sheet asked.old firsts.old)) state
-        (tables_of (pending.stackTables heads.new images.new)
-        (bindings.bindingTables made.new values.new)
+        (tables_of (pending.stack_tables heads.new images.new)
+        (bindings.binding_tables made.new values.new)
         (sheet asked.new firsts.new)) result
         (step_told s.now atoms left right act) }
 {

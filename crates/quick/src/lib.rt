@@ -52,7 +52,7 @@ fn through(
     node: NodeId,
 ) -> NodeId
     requires { Standing s.now places.now × (node.0 < length (problem_of s.now).nodes) }
-    ensures { LeadsTo s.now (bindings.bindingTables made.now values.now) bound.0 node result }
+    ensures { LeadsTo s.now (bindings.binding_tables made.now values.now) bound.0 node result }
 {
     let x = look::bare(s, places, node);
     if !bound.has(x) {
@@ -66,7 +66,7 @@ fn through(
 
 // "the same atom: done".
 fn atoms_meet(images: &Images, n: usize, atoms: usize, a: Atom, b: Atom) -> Meeting
-    requires { (n < pending.mostWaiting) × (atoms ≤ 32) }
+    requires { (n < pending.most_waiting) × (atoms ≤ 32) }
     ensures { result ≡ cond (eqb (image (left_at atoms images.now n) a.0) (image (right_at atoms images.now n) b.0)) Done Leave }
 {
     let x = stack::left_image(images, n, atoms, a);
@@ -90,7 +90,7 @@ fn abstractions_meet(
     b: Atom,
     k: NodeId,
 ) -> Meeting
-    requires { (n < pending.mostWaiting) × (atoms ≤ 32) × (a.0 < atoms) × (k.0 < 512)
+    requires { (n < pending.most_waiting) × (atoms ≤ 32) × (a.0 < atoms) × (k.0 < 512)
         × Permuting atoms (left_at atoms images.old n) × Permuting atoms (right_at atoms images.old n) }
     ensures { (result ≡ Part m k) × Taken atoms number n
         (abstractions (image (left_at atoms images.old n) a.0) (side_under (left_at atoms images.old n) m)
@@ -216,7 +216,7 @@ fn meet(
 
 // The equation waits again, at its place.
 fn wait(heads: &mut Heads, n: usize, number: u8, l: NodeId, r: NodeId, steps: u32) -> Went
-    requires { n < pending.mostWaiting }
+    requires { n < pending.most_waiting }
     ensures { Renewed n number l r heads.old heads.new × (result ≡ record { waiting = n + 1; steps = steps }) }
 {
     stack::renew(heads, n, number, l, r);
@@ -242,14 +242,14 @@ fn down(
     limit: u32,
 ) -> Went
     requires standing { Standing s.now places.now × (atoms ≡ (problem_of s.now).atoms) × (state.waiting ≢ 0) }
-    requires some_going { SomeGoing s.now atoms limit (tables_of (pending.stackTables heads.old images.old)
-        (bindings.bindingTables made.now values.now) (sheet asked.old firsts.old)) taken state }
+    requires some_going { SomeGoing s.now atoms limit (tables_of (pending.stack_tables heads.old images.old)
+        (bindings.binding_tables made.now values.now) (sheet asked.old firsts.old)) taken state }
     ensures { CarriedOn s.now atoms limit
-        (tables_of (pending.stackTables heads.old images.old)
-        (bindings.bindingTables made.now values.now)
+        (tables_of (pending.stack_tables heads.old images.old)
+        (bindings.binding_tables made.now values.now)
         (sheet asked.old firsts.old)) taken state
-        (tables_of (pending.stackTables heads.new images.new)
-        (bindings.bindingTables made.now values.now)
+        (tables_of (pending.stack_tables heads.new images.new)
+        (bindings.binding_tables made.now values.now)
         (sheet asked.new firsts.new)) result }
 {
     let mut n = state.waiting - 1;
@@ -317,14 +317,14 @@ pub fn go(
     limit: u32,
 ) -> Went
     requires standing { Standing s.now places.now × (atoms ≡ (problem_of s.now).atoms) }
-    requires some_going { SomeGoing s.now atoms limit (tables_of (pending.stackTables heads.old images.old)
-        (bindings.bindingTables made.now values.now) (sheet asked.old firsts.old)) taken start }
+    requires some_going { SomeGoing s.now atoms limit (tables_of (pending.stack_tables heads.old images.old)
+        (bindings.binding_tables made.now values.now) (sheet asked.old firsts.old)) taken start }
     ensures { CarriedOn s.now atoms limit
-        (tables_of (pending.stackTables heads.old images.old)
-        (bindings.bindingTables made.now values.now)
+        (tables_of (pending.stack_tables heads.old images.old)
+        (bindings.binding_tables made.now values.now)
         (sheet asked.old firsts.old)) taken start
-        (tables_of (pending.stackTables heads.new images.new)
-        (bindings.bindingTables made.now values.now)
+        (tables_of (pending.stack_tables heads.new images.new)
+        (bindings.binding_tables made.now values.now)
         (sheet asked.new firsts.new)) result }
 {
     let bound = start.bound;

@@ -33,7 +33,7 @@ pub fn judge_read(
     marks: &mut Marks,
 ) -> Given
     requires { ReadInto input.now places.now assumed.now c × VariablesKept (problem_of input.now).nodes node_variables.now }
-    ensures { judgement_given result ≡ run.judgementOf (problem_of input.now) (judged_run (problem_of input.now)) }
+    ensures { judgement_given result ≡ run.judgement_of (problem_of input.now) (judged_run (problem_of input.now)) }
 {
     let protected = VariableSet::below(64);
     let ran = run_read(

@@ -219,4 +219,4 @@ rest_spec 𝓤 𝓛 𝓜 𝓡 =
     entered 𝓤 𝓛.H (triple_of 𝓛 rest.signature (rest.spec 𝓛 𝓜.mem 𝓡.run))
     (tables 𝓤 𝓛.H 𝓜 𝓡 code.env).C (tables 𝓤 𝓛.H 𝓜 𝓡 code.env).Λ #descriptor·rest code.function (code.unfolded 𝓤 𝓛.H 𝓜 𝓡)
     (rest_meets 𝓛 𝓜.mem 𝓡.run (tables_of 𝓤 𝓛.H 𝓜 (tables 𝓤 𝓛.H 𝓜 𝓡 code.env))
-    (cited 𝓤 𝓛.H (Nano 𝓛 𝓜.mem 𝓡.run) 𝓜 𝓡 code.env #libc·nanosleep nano-def.routine code.calls-libc::nanosleep (nano-thm.met 𝓤 𝓛 𝓜 𝓡)))
+    (cited 𝓤 𝓛.H (Nano 𝓛 𝓜.mem 𝓡.run) 𝓜 𝓡 code.env #libc·nanosleep nano-def.routine code.calls_libc::nanosleep (nano-thm.met 𝓤 𝓛 𝓜 𝓡)))

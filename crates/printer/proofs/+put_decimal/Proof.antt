@@ -24,7 +24,7 @@ abbrev put_decimal_below : ℕ → In 1 put_decimal_kinds.ps
 put_decimal_below t =
     and 1 put_decimal_kinds.ps (falls 1 put_decimal_kinds.ps ◌<◌ μ_put_decimal t) put_decimal.Pre
 
-put_decimal_cast_put_byte : (t : ℕ) → put_decimal_lts.Need-overflow-cast-put-byte (
+put_decimal_cast_put_byte : (t : ℕ) → put_decimal_lts.Need_overflow_cast_put_byte (
   put_byte_reads.Asked,
   put_byte_reads.Learnt,
   put_decimal_below t,
@@ -32,7 +32,7 @@ put_decimal_cast_put_byte : (t : ℕ) → put_decimal_lts.Need-overflow-cast-put
 ) (put_decimal_at t) put_decimal.Post
 put_decimal_cast_put_byte t c = omega arith
 
-put_decimal_add_put_byte : (t : ℕ) → put_decimal_lts.Need-overflow-add-put-byte (
+put_decimal_add_put_byte : (t : ℕ) → put_decimal_lts.Need_overflow_add_put_byte (
   put_byte_reads.Asked,
   put_byte_reads.Learnt,
   put_decimal_below t,
@@ -40,7 +40,7 @@ put_decimal_add_put_byte : (t : ℕ) → put_decimal_lts.Need-overflow-add-put-b
 ) (put_decimal_at t) put_decimal.Post
 put_decimal_add_put_byte t c = omega arith
 
-put_decimal_put_byte_requires : (t : ℕ) → put_decimal_lts.Need-put-byte-requires (
+put_decimal_put_byte_requires : (t : ℕ) → put_decimal_lts.Need_put_byte_requires (
   put_byte_reads.Asked,
   put_byte_reads.Learnt,
   put_decimal_below t,
@@ -48,7 +48,7 @@ put_decimal_put_byte_requires : (t : ℕ) → put_decimal_lts.Need-put-byte-requ
 ) (put_decimal_at t) put_decimal.Post
 put_decimal_put_byte_requires t c κs = search rules
 
-put_decimal_same_length : (t : ℕ) → put_decimal_lts.Need-same-length (
+put_decimal_same_length : (t : ℕ) → put_decimal_lts.Need_same_length (
   put_byte_reads.Asked,
   put_byte_reads.Learnt,
   put_decimal_below t,
@@ -56,7 +56,7 @@ put_decimal_same_length : (t : ℕ) → put_decimal_lts.Need-same-length (
 ) (put_decimal_at t) put_decimal.Post
 put_decimal_same_length t c = placed_length c.before.before.put_byte.ensures
 
-put_decimal_returns : (t : ℕ) → put_decimal_lts.Need-returns (
+put_decimal_returns : (t : ℕ) → put_decimal_lts.Need_returns (
   put_byte_reads.Asked,
   put_byte_reads.Learnt,
   put_decimal_below t,
@@ -67,7 +67,7 @@ put_decimal_returns t c =
     let at_if1 = at_put_byte.before.before in
     rw (decimal_small _ at_if1.if1.true) at_put_byte.put_byte.ensures
 
-put_decimal_put_decimal_requires : (t : ℕ) → put_decimal_lts.Need-put-decimal-requires (
+put_decimal_put_decimal_requires : (t : ℕ) → put_decimal_lts.Need_put_decimal_requires (
   put_byte_reads.Asked,
   put_byte_reads.Learnt,
   put_decimal_below t,
@@ -75,7 +75,7 @@ put_decimal_put_decimal_requires : (t : ℕ) → put_decimal_lts.Need-put-decima
 ) (put_decimal_at t) put_decimal.Post
 put_decimal_put_decimal_requires t c κs = (omega arith, search rules)
 
-put_decimal_cast_put_byte_2 : (t : ℕ) → put_decimal_lts.Need-overflow-cast-put-byte-2 (
+put_decimal_cast_put_byte_2 : (t : ℕ) → put_decimal_lts.Need_overflow_cast_put_byte_2 (
   put_byte_reads.Asked,
   put_byte_reads.Learnt,
   put_decimal_below t,
@@ -83,7 +83,7 @@ put_decimal_cast_put_byte_2 : (t : ℕ) → put_decimal_lts.Need-overflow-cast-p
 ) (put_decimal_at t) put_decimal.Post
 put_decimal_cast_put_byte_2 t c = omega arith
 
-put_decimal_add_put_byte_2 : (t : ℕ) → put_decimal_lts.Need-overflow-add-put-byte-2 (
+put_decimal_add_put_byte_2 : (t : ℕ) → put_decimal_lts.Need_overflow_add_put_byte_2 (
   put_byte_reads.Asked,
   put_byte_reads.Learnt,
   put_decimal_below t,
@@ -91,7 +91,7 @@ put_decimal_add_put_byte_2 : (t : ℕ) → put_decimal_lts.Need-overflow-add-put
 ) (put_decimal_at t) put_decimal.Post
 put_decimal_add_put_byte_2 t c = omega arith
 
-put_decimal_put_byte_requires_2 : (t : ℕ) → put_decimal_lts.Need-put-byte-requires-2 (
+put_decimal_put_byte_requires_2 : (t : ℕ) → put_decimal_lts.Need_put_byte_requires_2 (
   put_byte_reads.Asked,
   put_byte_reads.Learnt,
   put_decimal_below t,
@@ -99,7 +99,7 @@ put_decimal_put_byte_requires_2 : (t : ℕ) → put_decimal_lts.Need-put-byte-re
 ) (put_decimal_at t) put_decimal.Post
 put_decimal_put_byte_requires_2 t c κs = search rules
 
-put_decimal_same_length_2 : (t : ℕ) → put_decimal_lts.Need-same-length-2 (
+put_decimal_same_length_2 : (t : ℕ) → put_decimal_lts.Need_same_length_2 (
   put_byte_reads.Asked,
   put_byte_reads.Learnt,
   put_decimal_below t,
@@ -110,7 +110,7 @@ put_decimal_same_length_2 t c =
     let at_put_decimal = at_put_byte2.before.before.before.before in
     placed_length (at_put_decimal.put_decimal.ensures then at_put_byte2.put-byte2.ensures)
 
-put_decimal_returns_2 : (t : ℕ) → put_decimal_lts.Need-returns-2 (
+put_decimal_returns_2 : (t : ℕ) → put_decimal_lts.Need_returns_2 (
   put_byte_reads.Asked,
   put_byte_reads.Learnt,
   put_decimal_below t,

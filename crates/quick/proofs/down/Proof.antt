@@ -14,8 +14,8 @@ use Rattle.quick.proofs.down.Tie as tie
 
 abbrev invariant_loop : tie.invariant-loop
 invariant_loop s places heads₀ images₀ made values asked₀ firsts₀ atoms state taken limit n₀ steps₀ number l₀ r₀ heads images asked firsts n steps l r =
-    Down s places atoms limit (tables_of (pending.stackTables heads₀ images₀) (bindings.bindingTables made values) (sheet asked₀ firsts₀)) taken state
-    (tables_of (pending.stackTables heads images) (bindings.bindingTables made values) (sheet asked firsts)) number l r n steps
+    Down s places atoms limit (tables_of (pending.stack_tables heads₀ images₀) (bindings.binding_tables made values) (sheet asked₀ firsts₀)) taken state
+    (tables_of (pending.stack_tables heads images) (bindings.binding_tables made values) (sheet asked firsts)) number l r n steps
 
 abbrev decreases_loop : tie.decreases-loop
 decreases_loop s places heads₀ images₀ made values asked₀ firsts₀ atoms state taken limit n₀ steps₀ number l₀ r₀ heads images asked firsts n steps l r =

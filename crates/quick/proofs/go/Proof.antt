@@ -13,8 +13,8 @@ use Rattle.quick.proofs.go.Tie as tie
 
 abbrev invariant_loop : tie.invariant-loop
 invariant_loop s places heads₀ images₀ made values asked₀ firsts₀ atoms start taken limit bound went₀ heads images asked firsts went =
-    CarriedOn s atoms limit (tables_of (pending.stackTables heads₀ images₀) (bindings.bindingTables made values) (sheet asked₀ firsts₀)) taken start
-    (tables_of (pending.stackTables heads images) (bindings.bindingTables made values) (sheet asked firsts)) went
+    CarriedOn s atoms limit (tables_of (pending.stack_tables heads₀ images₀) (bindings.binding_tables made values) (sheet asked₀ firsts₀)) taken start
+    (tables_of (pending.stack_tables heads images) (bindings.binding_tables made values) (sheet asked firsts)) went
 
 abbrev decreases_loop : tie.decreases-loop
 decreases_loop s places heads₀ images₀ made values asked₀ firsts₀ atoms start taken limit bound went₀ heads images asked firsts went =

@@ -73,20 +73,20 @@ module _ (t : ℕ) where
 
   -- Where the node's row is read, where the new atoms are, and where the form is.
   abbrev Row : Type 0
-  Row = parts_lts.After-atoms-at-arg2 claims parts_at parts.Post
+  Row = parts_lts.After_atoms_at_arg2 claims parts_at parts.Post
 
   abbrev Found : Type 0
-  Found = parts_lts.After-minus claims parts_at parts.Post
+  Found = parts_lts.After_minus claims parts_at parts.Post
 
   abbrev Here : Type 0
-  Here = parts_lts.After-form-at claims parts_at parts.Post
+  Here = parts_lts.After_form_at claims parts_at parts.Post
 
   -- The form is known to be a pair, and then its parts to be two nodes.
   abbrev Paired : Type 0
-  Paired = parts_lts.After-form3 claims parts_at parts.Post
+  Paired = parts_lts.After_form3 claims parts_at parts.Post
 
   abbrev Apart : Type 0
-  Apart = parts_lts.After-struct-known4 claims parts_at parts.Post
+  Apart = parts_lts.After_struct_known4 claims parts_at parts.Post
 
   -- ---- at the node's row
 
@@ -185,52 +185,52 @@ module _ (t : ℕ) where
 
   -- ---- what is to be shown, in the code's order
 
-  parts_atoms_at_requires : parts_lts.Need-atoms-at-requires claims parts_at parts.Post
+  parts_atoms_at_requires : parts_lts.Need_atoms_at_requires claims parts_at parts.Post
   parts_atoms_at_requires c κs = in_row c
 
-  parts_minus_requires : parts_lts.Need-minus-requires claims parts_at parts.Post
+  parts_minus_requires : parts_lts.Need_minus_requires claims parts_at parts.Post
   parts_minus_requires c κs = search rules
 
-  parts_is_empty_requires : parts_lts.Need-is-empty-requires claims parts_at parts.Post
+  parts_is_empty_requires : parts_lts.Need_is_empty_requires claims parts_at parts.Post
   parts_is_empty_requires c κs = search rules
 
-  parts_returns : parts_lts.Need-returns claims parts_at parts.Post
+  parts_returns : parts_lts.Need_returns claims parts_at parts.Post
   parts_returns c =
       let at_new = c.before.before in
       let none_new = sym (is_new at_new) ∙ eqb-true _ 0 (sym c.before.is_empty.ensures ∙ c.if1.true) in
       λ i. visited_again _ _ _ _ _ _ i.few none_new
 
-  parts_add_atoms_requires : parts_lts.Need-add-atoms-requires claims parts_at parts.Post
+  parts_add_atoms_requires : parts_lts.Need_add_atoms_requires claims parts_at parts.Post
   parts_add_atoms_requires c κs = omega (arith, in_row (row c.before.before.before), c.add-atoms-arg.given)
 
-  parts_form_at_requires : parts_lts.Need-form-at-requires claims parts_at parts.Post
+  parts_form_at_requires : parts_lts.Need_form_at_requires claims parts_at parts.Post
   parts_form_at_requires c κs = small_node (row c.before.before.before.before)
 
-  parts_enum_told : parts_lts.Need-enum-told claims parts_at parts.Post
+  parts_enum_told : parts_lts.Need_enum_told claims parts_at parts.Post
   parts_enum_told c = search rules
 
-  parts_returns_2 : parts_lts.Need-returns-2 claims parts_at parts.Post
+  parts_returns_2 : parts_lts.Need_returns_2 claims parts_at parts.Post
   parts_returns_2 c = let here = c.before.before in λ i. visited_unit (noted here i) (told here i c.enum_told.given.1)
 
-  parts_enum_known_form : parts_lts.Need-enum-known-form claims parts_at parts.Post
+  parts_enum_known_form : parts_lts.Need_enum_known_form claims parts_at parts.Post
   parts_enum_known_form c = search rules
 
-  parts_returns_3 : parts_lts.Need-returns-3 claims parts_at parts.Post
+  parts_returns_3 : parts_lts.Need_returns_3 claims parts_at parts.Post
   parts_returns_3 c = let here = c.before.before.before in λ i. visited_atom (noted here i) (told here i c.before.form.given.1)
 
-  parts_enum_known_form_2 : parts_lts.Need-enum-known-form-2 claims parts_at parts.Post
+  parts_enum_known_form_2 : parts_lts.Need_enum_known_form_2 claims parts_at parts.Post
   parts_enum_known_form_2 c = search rules
 
-  parts_without_requires : parts_lts.Need-without-requires claims parts_at parts.Post
+  parts_without_requires : parts_lts.Need_without_requires claims parts_at parts.Post
   parts_without_requires c κs = search rules
 
-  parts_parts_requires : parts_lts.Need-parts-requires claims parts_at parts.Post
+  parts_parts_requires : parts_lts.Need_parts_requires claims parts_at parts.Post
   parts_parts_requires c κs =
       let known = c.before.before.before.before.before in
       let here = known.before.before in
       may_visit here _ (named here (some_input (row (found here))) known.form2.given.1).1
 
-  parts_returns_4 : parts_lts.Need-returns-4 claims parts_at parts.Post
+  parts_returns_4 : parts_lts.Need_returns_4 claims parts_at parts.Post
   parts_returns_4 c =
       let without = c.before.before.before.before in
       let known = without.before.before in
@@ -239,13 +239,13 @@ module _ (t : ℕ) where
       visited_abstraction (noted here i) (told here i known.form2.given.1) without.without.ensures
       (c.parts.ensures (part i _ (named here i known.form2.given.1).1))
 
-  parts_enum_known_form_3 : parts_lts.Need-enum-known-form-3 claims parts_at parts.Post
+  parts_enum_known_form_3 : parts_lts.Need_enum_known_form_3 claims parts_at parts.Post
   parts_enum_known_form_3 c = search rules
 
-  parts_parts_requires_2 : parts_lts.Need-parts-requires-2 claims parts_at parts.Post
+  parts_parts_requires_2 : parts_lts.Need_parts_requires_2 claims parts_at parts.Post
   parts_parts_requires_2 c κs = may_visit_right c.before.before.before.before.before.before.before
 
-  parts_returns_5 : parts_lts.Need-returns-5 claims parts_at parts.Post
+  parts_returns_5 : parts_lts.Need_returns_5 claims parts_at parts.Post
   parts_returns_5 c =
       let test = c.before.before.before.before in
       let pair = test.before.before.before.before in
@@ -253,13 +253,13 @@ module _ (t : ℕ) where
       visited_twins (noted (pair_here pair) i) (is_pair pair i) test.if2.true
       (c.parts2.ensures (part i _ (both_below pair i).1))
 
-  parts_parts_requires_3 : parts_lts.Need-parts-requires-3 claims parts_at parts.Post
+  parts_parts_requires_3 : parts_lts.Need_parts_requires_3 claims parts_at parts.Post
   parts_parts_requires_3 c κs = may_visit_left (paired c.before.before.before.before)
 
-  parts_parts_requires_4 : parts_lts.Need-parts-requires-4 claims parts_at parts.Post
+  parts_parts_requires_4 : parts_lts.Need_parts_requires_4 claims parts_at parts.Post
   parts_parts_requires_4 c κs = may_visit_right (paired c.before.before.before.before.before.before.before.before)
 
-  parts_returns_6 : parts_lts.Need-returns-6 claims parts_at parts.Post
+  parts_returns_6 : parts_lts.Need_returns_6 claims parts_at parts.Post
   parts_returns_6 c =
       let first = c.before.before.before.before in
       let pair = paired first.before.before.before.before.before in
@@ -267,13 +267,13 @@ module _ (t : ℕ) where
       visited_pair (noted (pair_here pair) i) (is_pair pair i) (first.parts3.ensures (part i _ (both_below pair i).0))
       (c.parts4.ensures (part i _ (both_below pair i).1))
 
-  parts_parts_requires_5 : parts_lts.Need-parts-requires-5 claims parts_at parts.Post
+  parts_parts_requires_5 : parts_lts.Need_parts_requires_5 claims parts_at parts.Post
   parts_parts_requires_5 c κs = may_visit_right (paired c.before.before.before.before)
 
-  parts_parts_requires_6 : parts_lts.Need-parts-requires-6 claims parts_at parts.Post
+  parts_parts_requires_6 : parts_lts.Need_parts_requires_6 claims parts_at parts.Post
   parts_parts_requires_6 c κs = may_visit_left (paired c.before.before.before.before.before.before.before.before)
 
-  parts_returns_7 : parts_lts.Need-returns-7 claims parts_at parts.Post
+  parts_returns_7 : parts_lts.Need_returns_7 claims parts_at parts.Post
   parts_returns_7 c =
       let first = c.before.before.before.before in
       let pair = paired first.before.before.before.before.before in
@@ -281,16 +281,16 @@ module _ (t : ℕ) where
       visited_pair_right (noted (pair_here pair) i) (is_pair pair i) (first.parts5.ensures (part i _ (both_below pair i).1))
       (c.parts6.ensures (part i _ (both_below pair i).0))
 
-  parts_enum_known_form_4 : parts_lts.Need-enum-known-form-4 claims parts_at parts.Post
+  parts_enum_known_form_4 : parts_lts.Need_enum_known_form_4 claims parts_at parts.Post
   parts_enum_known_form_4 c = search rules
 
-  parts_parts_requires_7 : parts_lts.Need-parts-requires-7 claims parts_at parts.Post
+  parts_parts_requires_7 : parts_lts.Need_parts_requires_7 claims parts_at parts.Post
   parts_parts_requires_7 c κs =
       let known = c.before.before.before.before in
       let here = known.before.before in
       may_visit here _ (named here (some_input (row (found here))) known.form4.given.1)
 
-  parts_returns_8 : parts_lts.Need-returns-8 claims parts_at parts.Post
+  parts_returns_8 : parts_lts.Need_returns_8 claims parts_at parts.Post
   parts_returns_8 c =
       let known = c.before.before.before.before.before in
       let here = known.before.before in
@@ -298,10 +298,10 @@ module _ (t : ℕ) where
       visited_application (noted here i) (told here i known.form4.given.1)
       (c.parts7.ensures (part i _ (named here i known.form4.given.1)))
 
-  parts_enum_known_form_5 : parts_lts.Need-enum-known-form-5 claims parts_at parts.Post
+  parts_enum_known_form_5 : parts_lts.Need_enum_known_form_5 claims parts_at parts.Post
   parts_enum_known_form_5 c = search rules
 
-  parts_come_requires : parts_lts.Need-come-requires claims parts_at parts.Post
+  parts_come_requires : parts_lts.Need_come_requires claims parts_at parts.Post
   parts_come_requires c κs =
       let known = c.before.before.before in
       let here = known.before.before in
@@ -312,7 +312,7 @@ module _ (t : ℕ) where
         omega (arith, variables, (some_input at_row).stands.readable.few_variables, c.before.come-arg.given),
       )
 
-  parts_returns_9 : parts_lts.Need-returns-9 claims parts_at parts.Post
+  parts_returns_9 : parts_lts.Need_returns_9 claims parts_at parts.Post
   parts_returns_9 c =
       let known = c.before.before.before.before in
       let here = known.before.before in

@@ -4,28 +4,28 @@ use Rattle.field.proofs.Words.{fewest_joined}
 use Rattle.field.proofs.word.fewest.Statement.{statement}
 use Rattle.field.proofs.word.fewest.Tie as tie
 
-byte_or_zero_requires : tie.Need-byte-or-zero-requires
+byte_or_zero_requires : tie.Need-byte_or_zero-requires
 byte_or_zero_requires c κs = search rules
 
-mul_result : tie.Need-overflow-mul-result
+mul_result : tie.Need-overflow_mul-result
 mul_result c = search rules
 
-byte_or_zero_requires_2 : tie.Need-byte-or-zero-requires-2
+byte_or_zero_requires_2 : tie.Need-byte_or_zero-requires-2
 byte_or_zero_requires_2 c κs = search rules
 
-mul_result_2 : tie.Need-overflow-mul-result-2
+mul_result_2 : tie.Need-overflow_mul-result-2
 mul_result_2 c = search rules
 
-add_result : tie.Need-overflow-add-result
+add_result : tie.Need-overflow_add-result
 add_result c = search rules
 
-byte_or_zero_requires_3 : tie.Need-byte-or-zero-requires-3
+byte_or_zero_requires_3 : tie.Need-byte_or_zero-requires-3
 byte_or_zero_requires_3 c κs = search rules
 
-mul_result_3 : tie.Need-overflow-mul-result-3
+mul_result_3 : tie.Need-overflow_mul-result-3
 mul_result_3 c = search rules
 
-add_result_2 : tie.Need-overflow-add-result-2
+add_result_2 : tie.Need-overflow_add-result-2
 add_result_2 c = search rules
 
 returns : tie.Need-returns
@@ -33,7 +33,7 @@ returns c =
     let at_second = c.before in
     let at_first = at_second.before in
     let at_start = at_first.before.before in
-    rw (at_first.byte_or_zero.ensures.0, at_second.byte-or-zero2.ensures.0, c.byte-or-zero3.ensures.0)
+    rw (at_first.byte_or_zero.ensures.0, at_second.byte_or_zero-2.ensures.0, c.byte_or_zero-3.ensures.0)
     (fewest_joined at_start.args.s.now at_start.requires)
 
 pub fewest_spec : {M : Type 1} → statement M

@@ -8,44 +8,44 @@ use Rattle.field.proofs.Words.{long_joined, long_small}
 use Rattle.field.proofs.word.half.Statement.{statement}
 use Rattle.field.proofs.word.half.Tie as tie
 
-shared_slice_read_result : tie.Need-shared-slice-read-result
+shared_slice_read_result : tie.Need-bounds-s-i
 shared_slice_read_result c = search rules
 
-cast_result : tie.Need-overflow-cast-result
-cast_result c = omega (arith, c.shared-slice-known.given c.before.args.i)
+cast_result : tie.Need-overflow_cast-result
+cast_result c = omega (arith, c.shared_slice_known-1.given c.before.args.i)
 
-add_result : tie.Need-overflow-add-result
+add_result : tie.Need-overflow_add-result
 add_result c = search rules
 
-shared_slice_read_result_2 : tie.Need-shared-slice-read-result-2
+shared_slice_read_result_2 : tie.Need-bounds-s-i-2
 shared_slice_read_result_2 c = search rules
 
-cast_result_2 : tie.Need-overflow-cast-result-2
-cast_result_2 c = omega (arith, c.shared-slice-known2.given (c.before.before.args.i + 1))
+cast_result_2 : tie.Need-overflow_cast-result-2
+cast_result_2 c = omega (arith, c.shared_slice_known-2-1.given (c.before.before.args.i + 1))
 
-add_result_2 : tie.Need-overflow-add-result-2
+add_result_2 : tie.Need-overflow_add-result-2
 add_result_2 c = search rules
 
-shared_slice_read_result_3 : tie.Need-shared-slice-read-result-3
+shared_slice_read_result_3 : tie.Need-bounds-s-i-3
 shared_slice_read_result_3 c = search rules
 
-cast_result_3 : tie.Need-overflow-cast-result-3
-cast_result_3 c = omega (arith, c.shared-slice-known3.given (c.before.before.before.args.i + 2))
+cast_result_3 : tie.Need-overflow_cast-result-3
+cast_result_3 c = omega (arith, c.shared_slice_known-3-1.given (c.before.before.before.args.i + 2))
 
-add_result_3 : tie.Need-overflow-add-result-3
+add_result_3 : tie.Need-overflow_add-result-3
 add_result_3 c = search rules
 
-shared_slice_read_result_4 : tie.Need-shared-slice-read-result-4
+shared_slice_read_result_4 : tie.Need-bounds-s-i-4
 shared_slice_read_result_4 c = search rules
 
-cast_result_4 : tie.Need-overflow-cast-result-4
-cast_result_4 c = omega (arith, c.shared-slice-known4.given (c.before.before.before.before.args.i + 3))
+cast_result_4 : tie.Need-overflow_cast-result-4
+cast_result_4 c = omega (arith, c.shared_slice_known-4-1.given (c.before.before.before.before.args.i + 3))
 
 returns : tie.Need-returns
 returns c =
     let at_start = c.before.before.before.before in
     let given : List ℕ = at_start.args.s.now in
-    let bytes : Bytes given = λ k. (c.shared-slice-known4.given k).fits in
+    let bytes : Bytes given = λ k. (c.shared_slice_known-4-1.given k).fits in
     let joined = long_joined given bytes at_start.args.i in
     (joined, rw joined (long_small given bytes at_start.args.i))
 

@@ -22,8 +22,8 @@ use Rattle.machine.proofs.verdict.go.Tie as tie
 abbrev invariant_loop : tie.invariant-loop
 invariant_loop s places node_variables heads₀ images₀ made₀ values₀ asked₀ firsts₀ atoms protected limit state₀ steps₀ heads images made values asked
     firsts state steps =
-    Going s atoms protected.0 limit (bindings.bindingsOf atoms (bindings.bindingTables made₀ values₀) state₀.count)
-    (tables_of (pending.stackTables heads images) (bindings.bindingTables made values) (sheet asked firsts)) steps state
+    Going s atoms protected.0 limit (bindings.bindings_of atoms (bindings.binding_tables made₀ values₀) state₀.count)
+    (tables_of (pending.stack_tables heads images) (bindings.binding_tables made values) (sheet asked firsts)) steps state
 
 abbrev decreases_loop : tie.decreases-loop
 decreases_loop s places node_variables heads₀ images₀ made₀ values₀ asked₀ firsts₀ atoms protected limit state₀ steps₀ heads images made values asked
@@ -43,7 +43,7 @@ module _ (c : tie.At-loop invariant_loop decreases_loop) where
 
   -- The bindings that the run starts with.
   abbrev first : List Binding
-  first = bindings.bindingsOf start.args.atoms (bindings.bindingTables start.args.made.now start.args.values.now) start.args.start.count
+  first = bindings.bindings_of start.args.atoms (bindings.binding_tables start.args.made.now start.args.values.now) start.args.start.count
 
   footing : Footing start.args.s.now start.args.places.now start.args.node_variables.now start.args.atoms
   footing = start.pre.footing
@@ -68,7 +68,7 @@ module _ (c : tie.After-go invariant_loop decreases_loop) where
   tables =
       let heads_on = c.go.new.1.1 in
       let asked_on = heads_on.1.1.1.1 in
-      tables_of (pending.stackTables heads_on.0 heads_on.1.0) (bindings.bindingTables turn.loop.made turn.loop.values)
+      tables_of (pending.stack_tables heads_on.0 heads_on.1.0) (bindings.binding_tables turn.loop.made turn.loop.values)
       (sheet asked_on.0 asked_on.1.0)
 
   going : Going (start turn).args.s.now (start turn).args.atoms (start turn).args.protected.0 (start turn).args.limit (first turn) tables
