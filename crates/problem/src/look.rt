@@ -24,6 +24,7 @@ pub struct Freshness {
 }
 
 // The form that the table has for a node, whatever the input.
+#[tactic(auto, unfolding(crate::specs::Look::form_in))]
 pub fn form_at(places: &Places, n: NodeId) -> Form
     requires { n.0 < 512 }
     ensures { result ≡ form_in (node_word places.now n.0) }

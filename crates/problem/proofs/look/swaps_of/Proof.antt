@@ -16,36 +16,36 @@ here : (c : tie.After-length) → let a = c.before.before.before.before.args in
 here c =
     let at_known = c.before.before.before in
     let at_start = at_known.before in
-    rw c.length.ensures.0 (swaps_kept (λ i. (at_known.shared-slice-known.given i).fits) at_start.requires.0.kept at_start.requires.1)
+    rw c.length.ensures.0 (swaps_kept (λ i. (at_known.shared_slice_known-1.given i).fits) at_start.requires.0.kept at_start.requires.1)
 
-cast_w : tie.Need-overflow-cast-w
+cast_w : tie.Need-overflow_cast-w
 cast_w c = search rules
 
-mul_w : tie.Need-overflow-mul-w
+mul_w : tie.Need-offset_bounds-places-n
 mul_w c = search rules
 
-element_copy_out_w : tie.Need-element-copy-out-w
+element_copy_out_w : tie.Need-bounds-places-n
 element_copy_out_w c = search rules
 
-add_start : tie.Need-overflow-add-start
+add_start : tie.Need-overflow_add-start
 add_start c = search rules
 
-add_end : tie.Need-overflow-add-end
+add_end : tie.Need-overflow_add-end
 add_end c = search rules
 
 length_requires : tie.Need-length-requires
 length_requires c κs = search rules
 
-add_end_2 : tie.Need-overflow-add-end-2
+add_end_2 : tie.Need-overflow_add-end-2
 add_end_2 c = search rules
 
-sub_result : tie.Need-overflow-sub-result
+sub_result : tie.Need-slice_bounds-result-count
 sub_result c = let h = here c in omega arith
 
-part_result_start : tie.Need-slice-bounds-result-start
+part_result_start : tie.Need-slice_bounds-result-start
 part_result_start c = let h = here c in omega arith
 
-part_result_end : tie.Need-slice-bounds-result-end
+part_result_end : tie.Need-slice_bounds-result-end
 part_result_end c = let h = here c in omega arith
 
 returns : tie.Need-returns
