@@ -26,7 +26,7 @@ pub or_either : (a b : Bool) → T (a || b) ↔ (T a ⊎ T b)
 or_either true b = (λ h. inl tt, λ h. tt)
 or_either false b = (inr, λ h. elim h [ inl k ↦ absurd k | inr k ↦ k ])
 
-pass_at : (p : ℕ → Bool) {l : List ℕ} {a : ℕ} → Memᴰ a l → T (pass_all p l) → T (p a)
+pass_at : (p : ℕ → Bool) {a : ℕ} {l : List ℕ} → Memᴰ a l → T (pass_all p l) → T (p a)
 pass_at p (Memᴰ.head {x = x} {xs = xs} e) h = rw e ((and_both (p x) (pass_all p xs)).0 h).0
 pass_at p (Memᴰ.tail {x = x} {xs = xs} k) h = pass_at p k ((and_both (p x) (pass_all p xs)).0 h).1
 
@@ -125,9 +125,12 @@ given_sound (f ∷ F) a X h = go (given_sound F a X) ((or_either (eqb a f.0 && e
     go rest (inr k) = Memᴰ.tail (rest k)
 
 pub given_complete : (F : Facts) (a X : ℕ) → environment_of F a X → T (is_given F a X)
-given_complete F a X (Memᴰ.head {x = f} {xs = G} e) =
-    (or_either (eqb a f.0 && eqb X f.1) (is_given G a X)).1 (inl (rw (← e) ((and_both (eqb a a) (eqb X X)).1 (eqb_refl a, eqb_refl X))))
-given_complete F a X (Memᴰ.tail {x = f} {xs = G} k) = (or_either (eqb a f.0 && eqb X f.1) (is_given G a X)).1 (inr (given_complete G a X k))
+given_complete F a X = go
+  where
+    go : {F : Facts} → environment_of F a X → T (is_given F a X)
+    go (Memᴰ.head {x = f} {xs = G} e) =
+        (or_either (eqb a f.0 && eqb X f.1) (is_given G a X)).1 (inl (rw (← e) ((and_both (eqb a a) (eqb X X)).1 (eqb_refl a, eqb_refl X))))
+    go (Memᴰ.tail {x = f} {xs = G} k) = (or_either (eqb a f.0 && eqb X f.1) (is_given G a X)).1 (inr (go k))
 
 -- Freshness and equality from a finite set of facts are decided.
 pub fresh_decided : (F : Facts) (a : ℕ) (t : Tree) → (environment_of F ⊢ a # t) ↔ T (is_fresh (is_given F) a t)

@@ -52,8 +52,7 @@ module _ {∇ : Environment} where
   from_abstraction (≈-abstraction_2 n e h) = inr (n, e, h)
 
   pub from_abstraction_same : {a : ℕ} {s t : Tree} → ∇ ⊢ abstraction a s ≈ abstraction a t → ∇ ⊢ s ≈ t
-  from_abstraction_same (≈-abstraction_1 e) = e
-  from_abstraction_same (≈-abstraction_2 n e h) = absurd (n refl)
+  from_abstraction_same h = elim (from_abstraction h) [ inl k ↦ k.1 | inr k ↦ absurd (k.0 refl) ]
 
   pub from_abstraction_other : {a b : ℕ} {s t : Tree} → a ≢ b → ∇ ⊢ abstraction a s ≈ abstraction b t → (∇ ⊢ s ≈ permute ((a, b) ∷ []) t) × (∇ ⊢ a # t)
   from_abstraction_other n (≈-abstraction_1 e) = absurd (n refl)

@@ -15,7 +15,7 @@ use Rattle.nominal.proofs.Laws.{equal_reflexive, equal_symmetric, equal_transiti
 
 -- `Every` is membership's "for each".
 module _ {A : Type 0} (P : A → Type 0) where
-  pub every_at : {l : List A} {x : A} → Memᴰ x l → Every P l → P x
+  pub every_at : {x : A} {l : List A} → Memᴰ x l → Every P l → P x
   every_at (Memᴰ.head e) h = rw e h.0
   every_at (Memᴰ.tail m) h = every_at m h.1
 
