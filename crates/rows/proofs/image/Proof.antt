@@ -9,21 +9,21 @@ use Rattle.rows.specs.Rows.{images_in, row_held}
 use Rattle.rows.proofs.image.Statement.{statement}
 use Rattle.rows.proofs.image.Tie as tie
 
-cast_i : tie.Need-overflow-cast-i
+cast_i : tie.Need-overflow_cast-i
 cast_i c = search rules
 
 byte_requires : tie.Need-byte-requires
 byte_requires c κs = search rules
 
-returns : tie.Need-returns
+returns : tie.Need-returns-then-i-n
 unfolding images_in row_held table
 returns c =
     let at_start = c.before.before.before.before in
     let a = at_start.args in
-    let l : length a.row.now ≡ 32 = c.before.byte-arg.given.0 in
+    let l : length a.row.now ≡ 32 = c.before.byte-arg-1.given in
     c.byte.ensures ∙ sym (image_table a.n (row_held a.row.now) a.a.0 (omega arith) (omega arith))
 
-returns_2 : tie.Need-returns-2
+returns_2 : tie.Need-returns
 unfolding images_in row_held table
 returns_2 c =
     let a = c.before.before.args in

@@ -5,7 +5,7 @@ use Rattle.rows.specs.Rows.{images_in}
 use Rattle.rows.proofs.is_identity.Statement.{statement}
 use Rattle.rows.proofs.is_identity.Tie as tie
 
-each_stays_requires : tie.Need-each-stays-requires
+each_stays_requires : tie.Need-each_stays-requires
 each_stays_requires c κs = search rules
 
 returns : tie.Need-returns
