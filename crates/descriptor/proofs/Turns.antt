@@ -4,8 +4,7 @@ use native.Mathlib.Omega.{arith}
 use mathlib.Core.Logic.{◌⊎◌, inl, inr, ⊎_elim}
 use mathlib.Core.Path.{◌≡◌}
 use lib.IntN.{ℤ, pos, negsuc}
-use Rattle.libc.specs.Io.{Moved}
-use Rattle.descriptor.specs.Answers.{moved_of}
+use Rattle.descriptor.specs.Answers.{Moved, moved_of}
 use Rattle.descriptor.specs.Rounds.{All}
 use Rattle.descriptor.specs.declared.Answer.{Answer}
 
