@@ -49,6 +49,7 @@ pub fn form_of(s: &[u8], places: &Places, n: NodeId) -> Form
 }
 
 // The variable that the table has for a suspension without swaps, whatever the input; for any other node 255, which is no variable.
+#[tactic(auto, unfolding(crate::specs::Look::bare_in))]
 pub fn bare_at(places: &Places, n: NodeId) -> Variable
     requires { n.0 < 512 }
     ensures { result.0 ≡ bare_in (node_word places.now n.0) }
