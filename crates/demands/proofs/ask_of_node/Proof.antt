@@ -8,25 +8,25 @@ use borrow.Author.Rules.{rules}
 use Rattle.demands.proofs.ask_of_node.Statement.{statement}
 use Rattle.demands.proofs.ask_of_node.Tie as tie
 
-of_node_requires : tie.Need-of-node-requires
+of_node_requires : tie.Need-of_node-requires
 of_node_requires c κs = search rules
 
-with_requires : tie.Need-with-requires
+with_requires : tie.Need-with-atoms-requires
 with_requires c κs = search rules
 
-cast_put_in : tie.Need-overflow-cast-put-in
+cast_put_in : tie.Need-overflow_cast-n
 cast_put_in c = search rules
 
-put_in_requires : tie.Need-put-in-requires
+put_in_requires : tie.Need-put_in-requires
 put_in_requires c κs = search rules
 
 returns : tie.Need-returns
 returns c =
     let at_with = c.before.before.before in
     let at_set = at_with.before in
-    let start = at_set.before.before in
+    let start = at_set.before in
     let a = start.args in
-    let more = at_with.with.ensures ∙ ap (λ (atoms : ℕ). inserted 32 atoms a.a.0) at_set.of_node.ensures in
+    let more = at_with.with-atoms.ensures ∙ ap (λ (atoms : ℕ). inserted 32 atoms a.a.0) at_set.of_node.ensures in
     node_asked a.n.0 a.a.0 a.asked.now _ start.requires.1 c.put_in.ensures.0
     (c.put_in.ensures.1 ∙ ap (λ (atoms : ℕ). with_set 0 a.n.0 atoms a.asked.now) more)
 

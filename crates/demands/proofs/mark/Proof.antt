@@ -14,50 +14,50 @@ module _ (c : tie.After-has) where
   abbrev row : Line
   row = line start.args.sets.now start.args.numbers.now
 
-mul_t8 : tie.Need-overflow-mul-t8
+mul_t8 : tie.Need-offset_bounds-sets-i
 mul_t8 c = search rules
 
-slice_read_t10 : tie.Need-slice-read-t10
+slice_read_t10 : tie.Need-bounds-sets-i
 slice_read_t10 c = search rules
 
 has_requires : tie.Need-has-requires
 has_requires c κs = search rules
 
-returns : tie.Need-returns
+returns : tie.Need-returns-then-has
 returns c =
     let asked = c.before in
     let a = (start asked).args in
-    sym (line_marked_again a.i a.number a.a.0 (row asked) (sym asked.has.ensures ∙ c.if1.true))
+    sym (line_marked_again a.i a.number a.a.0 (row asked) (sym asked.has.ensures ∙ c.if-has.true))
 
-with_requires : tie.Need-with-requires
+with_requires : tie.Need-with-more-requires
 with_requires c κs = search rules
 
-mul_sets : tie.Need-overflow-mul-sets
+mul_sets : tie.Need-offset_bounds-sets-i-2
 mul_sets c = search rules
 
-slice_write_sets : tie.Need-slice-write-sets
+slice_write_sets : tie.Need-bounds-sets-i-2
 slice_write_sets c = search rules
 
-cast_numbers : tie.Need-overflow-cast-numbers
+cast_numbers : tie.Need-overflow_cast-numbers
 cast_numbers c = search rules
 
-slice_write_numbers : tie.Need-slice-write-numbers
+slice_write_numbers : tie.Need-bounds-numbers-a
 slice_write_numbers c = search rules
 
-same_length : tie.Need-same-length
+same_length : tie.Need-shape_of-sets
 same_length c = search rules
 
-same_length_2 : tie.Need-same-length-2
+same_length_2 : tie.Need-shape_of-numbers
 same_length_2 c = search rules
 
-returns_2 : tie.Need-returns-2
+returns_2 : tie.Need-returns
 returns_2 c =
     let inserting = c.before in
     let absent = inserting.before in
     let asked = absent.before in
     let a = (start asked).args in
-    rw inserting.with.ensures
-    (sym (line_marked_new a.i a.number a.a.0 (row asked) (sym asked.has.ensures ∙ absent.if1.false)))
+    rw inserting.with-more.ensures
+    (sym (line_marked_new a.i a.number a.a.0 (row asked) (sym asked.has.ensures ∙ absent.if-has.false)))
 
 pub mark_spec : {M : Type 1} → statement M
 mark_spec =

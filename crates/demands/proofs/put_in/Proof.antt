@@ -8,23 +8,23 @@ use borrow.Author.Rules.{rules}
 use Rattle.demands.proofs.put_in.Statement.{statement}
 use Rattle.demands.proofs.put_in.Tie as tie
 
-mul_put : tie.Need-overflow-mul-put
+mul_put : tie.Need-offset_bounds-asked-column
 mul_put c = search rules
 
-index_1_put : tie.Need-bounds-1-put
+index_1_put : tie.Need-bounds-asked-column
 index_1_put c = search rules
 
 put_requires : tie.Need-put-requires
 put_requires c κs = search rules
 
-same_length : tie.Need-same-length
+same_length : tie.Need-shape_of-asked
 same_length c = search rules
 
 returns : tie.Need-returns
 returns c =
     let start = c.before.before in
     let a = start.args in (
-      record { columns = start.requires.0; sets = omega (arith, start.requires.1, c.before.put-arg.given.0.1) },
+      record { columns = start.requires.0; sets = omega (arith, start.requires.1, c.before.put-arg-1.given.0.1) },
       ap (λ (sets : List ℕ). set a.asked.now a.column sets) c.put.ensures,
     )
 

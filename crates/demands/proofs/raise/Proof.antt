@@ -6,31 +6,31 @@ use borrow.Author.Rules.{rules}
 use Rattle.demands.proofs.raise.Statement.{statement}
 use Rattle.demands.proofs.raise.Tie as tie
 
-mul_row : tie.Need-overflow-mul-row
+mul_row : tie.Need-overflow_mul-row
 mul_row c = search rules
 
-add_row : tie.Need-overflow-add-row
+add_row : tie.Need-overflow_add-row
 add_row c = search rules
 
-mul_mark : tie.Need-overflow-mul-mark
+mul_mark : tie.Need-offset_bounds-asked-column
 mul_mark c = search rules
 
-index_1_mark : tie.Need-bounds-1-mark
+index_1_mark : tie.Need-bounds-asked-column
 index_1_mark c = search rules
 
-mul_mark_2 : tie.Need-overflow-mul-mark-2
+mul_mark_2 : tie.Need-offset_bounds-firsts-row
 mul_mark_2 c = search rules
 
-index_1_mark_2 : tie.Need-bounds-1-mark-2
+index_1_mark_2 : tie.Need-bounds-firsts-row
 index_1_mark_2 c = search rules
 
 mark_requires : tie.Need-mark-requires
 mark_requires c κs = search rules
 
-same_length : tie.Need-same-length
+same_length : tie.Need-shape_of-asked
 same_length c = search rules
 
-same_length_2 : tie.Need-same-length-2
+same_length_2 : tie.Need-shape_of-firsts
 same_length_2 c = search rules
 
 -- Where the row has been marked.
@@ -44,10 +44,10 @@ module _ (c : tie.After-mark) where
   row_there : RowThere start.args.column start.args.i tables
   row_there =
       record {
-        columns = start.pre.0;
-        sets = omega (arith, start.pre.1, c.before.before.mark-arg.given.0.1);
-        rows = start.pre.2;
-        numbers = c.before.mark-arg2.given.0.1;
+        columns = start.requires.0;
+        sets = omega (arith, start.requires.1, c.before.before.mark-arg-1.given.0.1);
+        rows = start.requires.2;
+        numbers = c.before.mark-arg-2-1.given.0.1;
       }
 
 returns : tie.Need-returns

@@ -4,7 +4,7 @@ use borrow.Author.Rules.{rules}
 use Rattle.demands.proofs.raise_node.Statement.{statement}
 use Rattle.demands.proofs.raise_node.Tie as tie
 
-cast_raise : tie.Need-overflow-cast-raise
+cast_raise : tie.Need-overflow_cast-node
 cast_raise c = search rules
 
 raise_requires : tie.Need-raise-requires

@@ -28,19 +28,19 @@ module _ (c : tie.Start) where
   within : c.args.a.0 < length images
   within = rw long c.requires.1
 
-sent_small : (c : tie.After-preimage) → c.preimage.result.0 < 32
+sent_small : (c : tie.After-preimage-b) → c.preimage-b.result.0 < 32
 sent_small c =
     let start = c.before in
-    omega (arith, c.preimage.ensures, few start, inverted_lt (images start) start.args.a.0 (within start))
+    omega (arith, c.preimage-b.ensures, few start, inverted_lt (images start) start.args.a.0 (within start))
 
-preimage_requires : tie.Need-preimage-requires
+preimage_requires : tie.Need-preimage-b-requires
 preimage_requires c κs = search rules
 
-raise_node_requires : tie.Need-raise-node-requires
+raise_node_requires : tie.Need-raise_node-requires
 raise_node_requires c κs = (sent_small c.before.before, search rules)
 
 returns : tie.Need-returns
-returns c = side_raised (rw c.before.before.before.preimage.ensures at c.raise_node.ensures)
+returns c = side_raised (rw c.before.before.before.preimage-b.ensures at c.raise_node.ensures)
 
 pub raise_side_spec : {M : Type 1} → statement M
 raise_side_spec = tie.close (tie.spec preimage_requires raise_node_requires returns)

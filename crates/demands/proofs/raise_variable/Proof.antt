@@ -9,10 +9,10 @@ use Rattle.demands.proofs.raise_variable.Tie as tie
 fits : (c : tie.Start) → c.args.atoms.0 < 2 ^ 32
 fits c = search rules
 
-cast_raise_all : tie.Need-overflow-cast-raise-all
+cast_raise_all : tie.Need-overflow_cast-x
 cast_raise_all c = search rules
 
-raise_all_requires : tie.Need-raise-all-requires
+raise_all_requires : tie.Need-raise_all-requires
 raise_all_requires c κs = search rules
 
 returns : tie.Need-returns
