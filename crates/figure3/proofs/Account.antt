@@ -20,7 +20,8 @@ use Rattle.run.proofs.Questions.{Wherever, NamedFact}
 use Rattle.run.proofs.Facts.{mem_facts}
 use Rattle.run.proofs.States.{State, state_next, AtEnd, run_end, start}
 use Rattle.solutions.specs.Promises.{asked}
-use Rattle.solutions.proofs.Answers.{asks_named, facts_named}
+use Rattle.solutions.proofs.Named.{asks_named}
+use Rattle.solutions.proofs.Answers.{facts_named}
 use Rattle.figure3.specs.Ran.{Ran}
 use Rattle.figure3.specs.Account.{Over, Account, at_limit, stuck, not_fresh, solved}
 use Rattle.figure3.proofs.Second.{all_resolve, all_fail}

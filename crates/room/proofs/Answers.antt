@@ -17,7 +17,8 @@ use Rattle.problem.proofs.Readable.{readable}
 use Rattle.problem.proofs.Numbers.{OneToSeven, reading_number}
 use Rattle.run.specs.Meaning.{Binding, meaning, Fact}
 use Rattle.run.specs.Run.{Equation, Demand, Refusal, clash, inside, protection, End, limit, refused, finished, run_of, equations_from, ground_of}
-use Rattle.run.specs.Answer.{Asked, asked_fresh, asked_assumed, asked_raised, resolved_all, Verdict, accepted, refusal, refusal_number, concluded, facts, verdict_of}
+use Rattle.run.specs.Answer.{Asked, asked_fresh, asked_assumed, asked_raised, resolved_all, Verdict, accepted, refusal, refusal_number, concluded, facts}
+use Rattle.run.specs.Answer.{verdict_of}
 use Rattle.run.specs.Answer.{verdict_read, answer_bytes, written, given, solve}
 use Rattle.run.proofs.States.{AtEnd, run_end}
 use Rattle.room.proofs.Bytes.{Narrow, answer_short, facts_few}

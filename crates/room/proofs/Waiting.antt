@@ -10,7 +10,8 @@ use Rattle.permutation.specs.Table.{Table}
 use Rattle.problem.specs.Problem.{Form, Node}
 use Rattle.run.specs.Meaning.{Side, Binding}
 use Rattle.run.specs.Run.{Ground, Equation, value_of, Step, refuses, goes_on, pending}
-use Rattle.run.proofs.Did.{Did, two_units, same_atoms, same_abstractions, other_abstractions, two_pairs, same_symbols, from_one_variable, left_bound, right_bound}
+use Rattle.run.proofs.Did.{Did, two_units, same_atoms, same_abstractions, other_abstractions, two_pairs, same_symbols, from_one_variable, left_bound}
+use Rattle.run.proofs.Did.{right_bound}
 use Rattle.run.proofs.Did.{left_inside, right_inside, left_protected, right_protected, both_protected, different_forms, different_atoms, different_symbols}
 use Rattle.room.proofs.Distinct.{Distinct, distinct_few}
 use Rattle.room.proofs.Weights.{weight, Respects, Lower, Heavier}

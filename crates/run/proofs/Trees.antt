@@ -10,8 +10,8 @@ use Rattle.permutation.specs.Swaps.{Swaps, act, inverse, Within}
 use Rattle.permutation.specs.Table.{Table, image, identity, after, inverted, of_swaps, swapped_after, swaps_of}
 use Rattle.permutation.proofs.Swaps.{act_append, within, within_append}
 use Rattle.permutation.proofs.Table.{length_identity, length_after, length_inverted, length_swapped_after, length_of_swaps, image_after, image_of_swaps_within}
-use Rattle.permutation.proofs.Table.{permutes_identity, permutes_of_swaps, permutes_after, permutes_inverted, permutes_swapped_after, act_swaps_of, swaps_of_within}
-use Rattle.permutation.proofs.Table.{swaps_of_after, swaps_of_inverted, swaps_of_swapped_after, swaps_of_identity}
+use Rattle.permutation.proofs.Table.{permutes_identity, permutes_of_swaps, permutes_after, permutes_inverted, permutes_swapped_after, act_swaps_of}
+use Rattle.permutation.proofs.Table.{swaps_of_within, swaps_of_after, swaps_of_inverted, swaps_of_swapped_after, swaps_of_identity}
 use Rattle.nominal.specs.Tree.{Tree, unit, atom, abstraction, pair, application, suspension, permute, Substitution, substitute}
 use Rattle.nominal.proofs.Tree.{permute_nil, permute_append}
 use Rattle.problem.specs.Problem.{Form, unit_form, atom_form, abstraction_form, pair_form, application_form, suspension_form, Node, form_at}

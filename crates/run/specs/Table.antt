@@ -41,7 +41,8 @@ whole_answer = 0x4E ∷ 0x00 ∷ 0x04 ∷ 0x00 ∷ 0x00 ∷ 0x00 ∷ 0x02 ∷ 0x
 -- "[a][b]X, [b][a]X", with step limit L; "3 steps, a and b fresh for X".
 abbrev pub C2 : ℕ → List ℕ
 C2 L =
-    head_bytes 2 1 L ++ suspension_field [] 0 ++ abstraction_field 1 0 ++ abstraction_field 0 1 ++ abstraction_field 0 0 ++ abstraction_field 1 3 ++ equation_field 2 4
+    head_bytes 2 1 L ++ suspension_field [] 0 ++ abstraction_field 1 0 ++ abstraction_field 0 1 ++ abstraction_field 0 0 ++ abstraction_field 1 3
+    ++ equation_field 2 4
 
 abbrev pub C2_answer : List ℕ
 C2_answer = part_fields (steps 3 ∷ fact 0 0 ∷ fact 1 0 ∷ [])
@@ -74,7 +75,8 @@ cases =
     ∷  -- C8 [a]a, [b]a: 9, place 0
     refused_case (head_bytes 2 0 100 ++ atom_field 0 ++ abstraction_field 0 0 ++ abstraction_field 1 0 ++ equation_field 1 2) 40 9 0
     ∷  -- C9 [a]X, [b]Y: X is Y under images 1 0, a fresh for Y
-    accepted_case (head_bytes 2 2 100 ++ suspension_field [] 0 ++ suspension_field [] 1 ++ abstraction_field 0 0 ++ abstraction_field 1 1 ++ equation_field 2 3) 0
+    accepted_case (head_bytes 2 2 100 ++ suspension_field [] 0 ++ suspension_field [] 1 ++ abstraction_field 0 0 ++ abstraction_field 1 1
+    ++ equation_field 2 3) 0
     (part_fields (steps 2 ∷ binding 0 1 (1 ∷ 0 ∷ []) ∷ fact 0 1 ∷ []))
     ∷  -- C10 X protected, X against unit: 11, place 0
     refused_case (head_bytes 0 1 100 ++ suspension_field [] 0 ++ unit_field ++ protection_field 0 ++ equation_field 0 1) 40 11 0

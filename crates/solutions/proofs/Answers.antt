@@ -1,34 +1,35 @@
 -- Demand 3: of every readable problem, an accepted answer's allowed instances are exactly the allowed solutions, and a problem refused with 9 to 12
 -- has none. And what follows from it: the answer solves the problem, its substitution done twice is itself, order and repetition do not matter.
-use Prim.Native.Nat.{ℕ, suc, ◌<◌}
+use Prim.Native.Nat.{ℕ, suc}
 use native.Mathlib.Omega.{arith}
 use mathlib.Core.Path.{◌≡◌, refl}
 use mathlib.Core.Logic.{◌↔◌}
 use mathlib.Core.Bool.{Bool, true}
-use mathlib.Core.List.{List, [], ◌∷◌, ◌++◌, map, Memᴰ}
+use mathlib.Core.List.{List, [], ◌∷◌, ◌++◌, map}
 use mathlib.Core.Option.{Option, none, some}
-use lib.ListN.{length}
 use Rattle.sets.specs.Bits.{among}
 use Rattle.nominal.specs.Tree.{variable, Occurs, Substitution, substitute, composed}
 use Rattle.nominal.specs.Figure2.{Environment}
 use Rattle.nominal.specs.Solutions.{Every, environment_of, Allowance, Meets, Equates, Solves, Holds, Satisfies, Idempotent, Unbound}
 use Rattle.nominal.proofs.Tree.{permute_nil}
 use Rattle.nominal.proofs.Laws.{equal_reflexive, equal_symmetric}
-use Rattle.nominal.proofs.Solutions.{every_of, every_append, every_map, meets_equal, instance_exactly}
-use Rattle.problem.specs.Problem.{Node, Equal, Fresh, Assumed, Problem}
+use Rattle.nominal.proofs.Solutions.{every_of, every_append, every_map, meets_equal}
+use Rattle.problem.specs.Problem.{Node, Equal, Problem}
 use Rattle.problem.specs.Readable.{Readable}
 use Rattle.run.specs.Meaning.{Side, Binding, Fact, tree, meaning, fresh_for}
-use Rattle.run.specs.Run.{Equation, Subject, of_variable, of_side, Demand, Ground, value_of, goes_on, step, End, limit, refused, finished, pending, bindings}
+use Rattle.run.specs.Run.{Equation, Subject, Demand, Ground, value_of, goes_on, step, End, limit, refused, finished, pending, bindings}
 use Rattle.run.specs.Run.{demands, run, ground_of, run_of, equations_from}
-use Rattle.run.specs.Answer.{Asked, subject_tree, asked_fresh, asked_assumed, asked_raised, resolved_all, facts, concluded, verdict_of}
-use Rattle.run.proofs.Trees.{NamedTree, named_node, named_side, named_substitute, tree_plain}
+use Rattle.run.specs.Answer.{Asked, subject_tree, asked_raised, resolved_all, facts, concluded, verdict_of}
+use Rattle.run.proofs.Trees.{named_substitute, tree_plain}
 use Rattle.run.proofs.Same.{same_symmetric}
 use Rattle.run.proofs.Questions.{Each, Wherever, wherever_map, resolved_all_holds, fresh_for_occurs, fresh_for_named, resolved_all_wherever, NamedFact}
 use Rattle.run.proofs.Facts.{among_true, every_facts}
 use Rattle.run.proofs.Bindings.{by_value, Meant, meant_idempotent, meant_gone}
-use Rattle.run.proofs.States.{SubjectFits, DemandFits, State, ground_with, meaning_none, start, AtEnd, run_end, state_next, step_keeps, unbound_next, Keeps}
-use Rattle.solutions.specs.Promises.{asked, IsProtected, allowance, answer_of, Promised}
+use Rattle.run.proofs.States.{State, ground_with, meaning_none, start, AtEnd, run_end, state_next, step_keeps, unbound_next, Keeps}
+use Rattle.solutions.specs.Promises.{asked, IsProtected, allowance, Promised}
 use Rattle.solutions.proofs.Step.{equates_same}
+use Rattle.solutions.proofs.Named.{NamedAsked, asks_named}
+use Rattle.solutions.proofs.Instances.{answer_instances}
 use Rattle.solutions.proofs.Run.{WaitingEqual, RaisedMeet, Satisfied, Right, run_right}
 
 pub every_mapped : {A B : Type 0} (P : B → Type 0) (f : A → B) (l : List A) → Every P (map f l) ↔ Every (λ x. P (f x)) l
@@ -59,44 +60,6 @@ started p ∇ τ = (
 )
 
 -- ---- at the end
-
--- A demand's names are there.
-abbrev pub NamedAsked : Problem → Asked → Type 0
-NamedAsked p d = (d.0 < p.atoms) × NamedTree p.atoms p.variables d.1
-
-module _ (p : Problem) (r : Readable p) where
-  fresh_named : (ds : List Fresh) → ((d : Fresh) → Memᴰ d ds → (d.atom < p.atoms) × (d.node < length p.nodes))
-      → Every (NamedAsked p) (asked_fresh p.nodes ds)
-  fresh_named [] h = tt
-  fresh_named (d ∷ ds) h = (
-    ((h d (Memᴰ.head refl)).0, named_node p.atoms p.variables p.nodes r.named_nodes d.node),
-    fresh_named ds
-        (λ e m. h e (Memᴰ.tail m)),
-  )
-
-  assumed_named : (ds : List Assumed) → ((d : Assumed) → Memᴰ d ds → (d.atom < p.atoms) × (d.variable < p.variables))
-      → Every (NamedAsked p) (asked_assumed ds)
-  assumed_named [] h = tt
-  assumed_named (d ∷ ds) h = let k = h d (Memᴰ.head refl) in ((k.0, (k.1, tt)), assumed_named ds (λ e m. h e (Memᴰ.tail m)))
-
-  module _ (is_protected : ℕ → Bool) where
-    subject_named : (s : Subject) → SubjectFits (ground_with p is_protected) p.variables s → NamedTree p.atoms p.variables (subject_tree p.nodes s)
-    subject_named (of_variable X) f = (f, tt)
-    subject_named (of_side s) f = named_side p.atoms p.variables p.nodes r.named_nodes s f.images
-
-    raised_named : (ds : List Demand) → Every (λ d. DemandFits (ground_with p is_protected) p.variables (d.atom, d.subject)) ds
-        → Every (NamedAsked p) (asked_raised p.nodes ds)
-    raised_named [] h = tt
-    raised_named (d ∷ ds) h = ((h.0.0, subject_named d.subject h.0.1), raised_named ds h.1)
-
-    pub asks_named : (ds : List Demand) → Every (λ d. DemandFits (ground_with p is_protected) p.variables (d.atom, d.subject)) ds
-        → Every (NamedAsked p) ((asked p).demands ++ asked_raised p.nodes ds)
-    asks_named ds h =
-        (every_append (NamedAsked p) (asked p).demands (asked_raised p.nodes ds)).1 (
-          (every_append (NamedAsked p) (asked_fresh p.nodes p.freshness) (asked_assumed p.assumptions)).1
-              (fresh_named p.freshness r.named_freshness, assumed_named p.assumptions r.named_assumptions),
-          raised_named ds h,
-        )
 
 -- What the demands come down to under bindings that have a meaning.
 module _ (p : Problem) (is_protected : ℕ → Bool) {bs : List Binding} (m : Meant (ground_with p is_protected) p.variables bs (meaning p.nodes bs)) where
@@ -198,7 +161,7 @@ module _ (p : Problem) (r : Readable p) (A : Allowance)
       → Wherever (NamedFact p.atoms p.variables) o → Wherever (Unbound (meaning p.nodes bs)) o → Promised A p (concluded p k bs o)
   concluded_promised k bs once none x n u = λ l F τ a s. ((x (environment_of F) τ a.1).0 s).1
   concluded_promised k bs once (some fs) x n u = λ F τ a.
-      let i = instance_exactly A {∇ = environment_of F} τ (answer_of p bs (facts p fs)) once a.1 ((every_facts p (Unbound (meaning p.nodes bs)) fs n).0 u) in
+      let i = answer_instances p A bs (facts p fs) F τ once a.1 ((every_facts p (Unbound (meaning p.nodes bs)) fs n).0 u) in
       let e = every_facts p (Holds (environment_of F) τ) fs n in
       let y = x (environment_of F) τ a.1 in
       (λ s. let j = y.0 s in i.0 (j.0, e.0 j.1), λ j. let h = i.1 j in y.1 (h.0, e.1 h.1))

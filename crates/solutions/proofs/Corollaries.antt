@@ -19,7 +19,8 @@ use Rattle.problem.proofs.Readable.{readable}
 use Rattle.problem.proofs.Numbers.{OneToSeven, reading_number}
 use Rattle.run.specs.Meaning.{Binding, Fact, meaning}
 use Rattle.run.specs.Run.{Refusal, clash, inside, protection, End, limit, refused, finished, run_of}
-use Rattle.run.specs.Answer.{resolved_all, facts, answer_bytes, Verdict, accepted, refusal, refusal_number, concluded, verdict_of, verdict_read, Result, written}
+use Rattle.run.specs.Answer.{resolved_all, facts, answer_bytes, Verdict, accepted, refusal, refusal_number, concluded, verdict_of, verdict_read, Result}
+use Rattle.run.specs.Answer.{written}
 use Rattle.run.specs.Answer.{NoSolution}
 use Rattle.run.specs.Answer.{given as result, solve}
 use Rattle.run.proofs.Questions.{Wherever, NamedFact}
@@ -28,7 +29,8 @@ use Rattle.run.proofs.Written.{written_number}
 use Rattle.run.proofs.Bindings.{Meant, meant_idempotent, meant_only}
 use Rattle.run.proofs.States.{ground_with, AtEnd}
 use Rattle.solutions.specs.Promises.{asked, IsProtected, allowance, answer_of, Unsolvable, Promised, Proper, SameDemands, Agree, Accepts, Refuses}
-use Rattle.solutions.proofs.Answers.{asked_all, asks_named, facts_named, facts_unbound, Kept, run_kept, listed, meaning_allowed, promised}
+use Rattle.solutions.proofs.Named.{asks_named}
+use Rattle.solutions.proofs.Answers.{asked_all, facts_named, facts_unbound, Kept, run_kept, listed, meaning_allowed, promised}
 
 -- ---- an answer by itself
 

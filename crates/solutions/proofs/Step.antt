@@ -108,6 +108,7 @@ module _ (g : Ground) (variables : ℕ) (named : (n : ℕ) → Named g.atoms var
 
     raised_at : (X : ℕ) (l : List ℕ) → Every (SubjectMeets g.nodes ∇ τ) (map (λ a. (a, of_variable X)) l) → (a : ℕ) → Memᴰ a l
         → Meets ∇ τ (a, variable X)
+    raised_at X [] k a n = elim n [ ]
     raised_at X (b ∷ l) k a (Memᴰ.head e) = rw e k.0
     raised_at X (b ∷ l) k a (Memᴰ.tail n) = raised_at X l k.1 a n
 
