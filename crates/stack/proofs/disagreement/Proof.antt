@@ -4,22 +4,19 @@ use borrow.Author.Rules.{rules}
 use Rattle.stack.proofs.disagreement.Statement.{statement}
 use Rattle.stack.proofs.disagreement.Tie as tie
 
-mul_disagreement : tie.Need-overflow-mul-disagreement
+mul_disagreement : tie.Need-offset_bounds-images-n
 mul_disagreement c = search rules
 
-index_1_disagreement : tie.Need-bounds-1-disagreement
+index_1_disagreement : tie.Need-bounds-images-n
 index_1_disagreement c = search rules
 
-index_2_disagreement : tie.Need-bounds-2-disagreement
+index_2_disagreement : tie.Need-bounds-images-0
 index_2_disagreement c = search rules
 
-mul_disagreement_2 : tie.Need-overflow-mul-disagreement-2
+mul_disagreement_2 : tie.Need-offset_bounds-images-n-2
 mul_disagreement_2 c = search rules
 
-index_1_disagreement_2 : tie.Need-bounds-1-disagreement-2
-index_1_disagreement_2 c = search rules
-
-index_2_disagreement_2 : tie.Need-bounds-2-disagreement-2
+index_2_disagreement_2 : tie.Need-bounds-images-1
 index_2_disagreement_2 c = search rules
 
 disagreement_requires : tie.Need-disagreement-requires
@@ -37,7 +34,6 @@ disagreement_spec =
     index_1_disagreement
     index_2_disagreement
     mul_disagreement_2
-    index_1_disagreement_2
     index_2_disagreement_2
     disagreement_requires
     returns)

@@ -7,19 +7,19 @@ use borrow.Author.Rules.{rules}
 use Rattle.stack.proofs.push.Statement.{statement}
 use Rattle.stack.proofs.push.Tie as tie
 
-keep_requires : tie.Need-keep-requires
+keep_requires : tie.Need-keep-left-requires
 keep_requires c κs = search rules
 
-keep_requires_2 : tie.Need-keep-requires-2
+keep_requires_2 : tie.Need-keep-right-requires
 keep_requires_2 c κs = search rules
 
-cast_t10 : tie.Need-overflow-cast-t10
+cast_t10 : tie.Need-overflow_cast-e
 cast_t10 c = search rules
 
-put_head_requires : tie.Need-put-head-requires
+put_head_requires : tie.Need-put_head-requires
 put_head_requires c κs = search rules
 
-put_images_requires : tie.Need-put-images-requires
+put_images_requires : tie.Need-put_images-requires
 put_images_requires c κs = search rules
 
 small : (c : tie.Start) → c.args.e.number < 256
@@ -30,17 +30,17 @@ unfolding with_equation
 returns c =
     let head_put = c.before.before in
     let right_kept = head_put.before.before.before in
-    let left_kept = right_kept.before in
-    let at_start = left_kept.before in
+    let left_kept = right_kept.before.before in
+    let at_start = left_kept.before.before in
     let a = at_start.args in
     let room : Room a.n (stack_tables a.heads.now a.images.now) =
     record {
-      heads = omega (arith, at_start.requires, head_put.before.before.put-head-arg.given.0.1);
-      images = omega (arith, at_start.requires, c.before.put-images-arg.given.0.1);
+      heads = omega (arith, at_start.requires, head_put.before.before.put_head-arg-1.given.0.1);
+      images = omega (arith, at_start.requires, c.before.put_images-arg-1.given.0.1);
     }
     in
     pushed a.n a.e _ room (small at_start) _
-    (rw (head_put.put_head.ensures, c.put_images.ensures, left_kept.keep.ensures, right_kept.keep2.ensures))
+    (rw (head_put.put_head.ensures, c.put_images.ensures, left_kept.keep-left.ensures, right_kept.keep-right.ensures))
 
 pub push_spec : {M : Type 1} → statement M
 push_spec = tie.close (tie.spec keep_requires keep_requires_2 cast_t10 put_head_requires put_images_requires returns)

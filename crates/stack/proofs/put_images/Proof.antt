@@ -3,16 +3,16 @@ use borrow.Author.Rules.{rules}
 use Rattle.stack.proofs.put_images.Statement.{statement}
 use Rattle.stack.proofs.put_images.Tie as tie
 
-mul_put_rows : tie.Need-overflow-mul-put-rows
+mul_put_rows : tie.Need-offset_bounds-images-n
 mul_put_rows c = search rules
 
-index_1_put_rows : tie.Need-bounds-1-put-rows
+index_1_put_rows : tie.Need-bounds-images-n
 index_1_put_rows c = search rules
 
-put_rows_requires : tie.Need-put-rows-requires
+put_rows_requires : tie.Need-put_rows-requires
 put_rows_requires c κs = search rules
 
-same_length : tie.Need-same-length
+same_length : tie.Need-shape_of-images
 same_length c = search rules
 
 returns : tie.Need-returns

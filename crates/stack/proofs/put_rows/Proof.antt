@@ -4,13 +4,13 @@ use borrow.Author.Rules.{rules}
 use Rattle.stack.proofs.put_rows.Statement.{statement}
 use Rattle.stack.proofs.put_rows.Tie as tie
 
-slice_set_from_left : tie.Need-slice-set-from-left
+slice_set_from_left : tie.Need-bounds-rows-0
 slice_set_from_left c = search rules
 
-slice_set_from_right : tie.Need-slice-set-from-right
+slice_set_from_right : tie.Need-bounds-rows-1
 slice_set_from_right c = search rules
 
-same_length : tie.Need-same-length
+same_length : tie.Need-shape_of-rows
 same_length c = search rules
 
 returns : tie.Need-returns

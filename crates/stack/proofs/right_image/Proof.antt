@@ -4,13 +4,13 @@ use borrow.Author.Rules.{rules}
 use Rattle.stack.proofs.right_image.Statement.{statement}
 use Rattle.stack.proofs.right_image.Tie as tie
 
-mul_image : tie.Need-overflow-mul-image
+mul_image : tie.Need-offset_bounds-images-n
 mul_image c = search rules
 
-index_1_image : tie.Need-bounds-1-image
+index_1_image : tie.Need-bounds-images-n
 index_1_image c = search rules
 
-index_2_image : tie.Need-bounds-2-image
+index_2_image : tie.Need-bounds-images-1
 index_2_image c = search rules
 
 image_requires : tie.Need-image-requires

@@ -4,13 +4,13 @@ use borrow.Author.Rules.{rules}
 use Rattle.stack.proofs.right_preimage.Statement.{statement}
 use Rattle.stack.proofs.right_preimage.Tie as tie
 
-mul_preimage : tie.Need-overflow-mul-preimage
+mul_preimage : tie.Need-offset_bounds-images-n
 mul_preimage c = search rules
 
-index_1_preimage : tie.Need-bounds-1-preimage
+index_1_preimage : tie.Need-bounds-images-n
 index_1_preimage c = search rules
 
-index_2_preimage : tie.Need-bounds-2-preimage
+index_2_preimage : tie.Need-bounds-images-1
 index_2_preimage c = search rules
 
 preimage_requires : tie.Need-preimage-requires

@@ -4,16 +4,16 @@ use borrow.Author.Rules.{rules}
 use Rattle.stack.proofs.swap_at.Statement.{statement}
 use Rattle.stack.proofs.swap_at.Tie as tie
 
-mul_swap_second : tie.Need-overflow-mul-swap-second
+mul_swap_second : tie.Need-offset_bounds-images-n
 mul_swap_second c = search rules
 
-index_1_swap_second : tie.Need-bounds-1-swap-second
+index_1_swap_second : tie.Need-bounds-images-n
 index_1_swap_second c = search rules
 
-swap_second_requires : tie.Need-swap-second-requires
+swap_second_requires : tie.Need-swap_second-requires
 swap_second_requires c κs = search rules
 
-same_length : tie.Need-same-length
+same_length : tie.Need-shape_of-images
 same_length c = search rules
 
 returns : tie.Need-returns
