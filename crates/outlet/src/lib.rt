@@ -1,10 +1,13 @@
 // Writing bytes whole: until all are taken, a write fails, or one takes nothing. What was taken is then a prefix, and nothing follows a failed write.
 #![tactic(auto)]
 
-ghost use Rattle.std.specs.Prelude.{◌≤◌, ◌≡◌, true, length};
+ghost use Rattle.std.specs.Prelude.{◌≤◌, ◌≡◌, true, length, take};
+ghost use Rattle.std.specs.Io.KnownBytes.{Appends};
 ghost use Rattle.outlet.specs.Puts.{Puts};
 
 use descriptor::Answer;
+use std::io::Write;
+use std::time::Clock;
 
 // How many bytes were taken, whether that is all, and what the last write answered. It can be made here alone, so that none stands for a write that
 // was not made.
@@ -33,15 +36,23 @@ pub fn is_whole(taken: Taken) -> bool
     taken.whole
 }
 
-// Writes the bytes. No call comes after a write that failed, so errno is that write's.
-pub fn put(fd: i32, buf: &[u8]) -> Taken
+// What the last write answered.
+pub fn last(taken: Taken) -> Answer
+    ensures { result ≡ taken.last }
+{
+    taken.last
+}
+
+// Writes the bytes. No call comes after a write that failed.
+pub fn put<W: Write, C: Clock>(writer: &mut W, clock: &C, buf: &[u8]) -> Taken
     ensures count_in_bounds { result.count ≤ length buf.now }
     ensures puts { Puts (length buf.now) result }
+    ensures bytes { Appends (W.contents writer.old) (W.contents writer.new) (take result.count buf.now) }
 {
     let mut done: usize = 0;
     let mut last = descriptor::none();
     while done < buf.len() {
-        last = descriptor::write(fd, &buf[done..]);
+        last = descriptor::write(writer, clock, &buf[done..]);
         let more = descriptor::moved(last);
         if more == 0 {
             return Taken {
