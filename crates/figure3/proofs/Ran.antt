@@ -11,7 +11,7 @@ use Rattle.nominal.proofs.Tree.{substitute_variable}
 use Rattle.problem.specs.Problem.{Node, form_at, Equal, Problem}
 use Rattle.problem.specs.Readable.{Named, Readable}
 use Rattle.run.specs.Meaning.{Side, tree, side_tree, Binding}
-use Rattle.run.specs.Run.{Equation, Subject, Demand, Ground, Refusal, Step, refuses, goes_on, step, pending, bindings, demands, End, limit, next, run}
+use Rattle.run.specs.Run.{Equation, Subject, Demand, Ground, Refusal, Step, refuses, goes_on, step, pending, bindings, demands, End, next, run}
 use Rattle.run.specs.Run.{equations_from, ground_of, run_of}
 use Rattle.run.specs.Answer.{Asked, asked_fresh, judged_run}
 use Rattle.run.proofs.Limit.{Ends, run_ends}

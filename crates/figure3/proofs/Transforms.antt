@@ -2,7 +2,7 @@
 use Prim.Native.Nat.{ℕ}
 use mathlib.Core.Path.{◌≡◌, refl, sym, ◌∙◌, ap}
 use mathlib.Core.List.{List, [], ◌∷◌, ◌++◌, map, append-nil, append_assoc}
-use Rattle.nominal.specs.Tree.{Tree, variable, Substitution, substitute, composed, replacing}
+use Rattle.nominal.specs.Tree.{Tree, Substitution, substitute, composed, replacing}
 use Rattle.nominal.specs.Solutions
 use Rattle.nominal.proofs.Tree.{substitute_variable, substitute_composed}
 use Rattle.problem.specs.Problem.{Node, form_at}

@@ -51,7 +51,8 @@ module _ (is_protected : ℕ → Type 0) where
 
   -- P =σ⇒ P'.
   pub data First : TreeProblem → Label → TreeProblem → Type 0 where
-    first : {t t' : Tree} {σ : Label} {E' : List TreeEquation} {D' : List TreeDemand} (E E'' : List TreeEquation) (D : List TreeDemand) → Equational t t' σ E' D'
+    first : {t t' : Tree} {σ : Label} {E' : List TreeEquation} {D' : List TreeDemand} (E E'' : List TreeEquation) (D : List TreeDemand)
+        → Equational t t' σ E' D'
         → First (record { demands = D; equations = E ++ (t, t') ∷ E'' }) σ (put_into σ (record { demands = D ++ D'; equations = E ++ (E' ++ E'') }))
 
 -- The rules of the second phase for a #? t: the label, "either empty ∅, or a singleton {a # X}", and the freshness problems that take its place.

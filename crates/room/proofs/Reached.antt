@@ -37,6 +37,7 @@ abbrev pub bound_by : List Binding → List ℕ
 bound_by bs = map (λ b. b.variable) bs
 
 unbound_apart : (bs : List Binding) (X : ℕ) → value_of bs X ≡ none → (Y : ℕ) → Memᴰ Y (bound_by bs) → Y ≢ X
+unbound_apart [] X e Y i q = elim i [ ]
 unbound_apart (b ∷ bs) X e Y (Memᴰ.head p) q =
     let z : ◌≡◌ {A = ℕ} 0 1 = cc (rw (eq-eqb X b.variable (sym q ∙ p)) at e) in omega arith
 unbound_apart (b ∷ bs) X e Y (Memᴰ.tail i) q =
@@ -138,5 +139,6 @@ module _ (g : Ground) (variables : ℕ) (named : (n : ℕ) → Named g.atoms var
   once_few {bs = bs} k = omega (arith, length-map bs (λ b. b.variable), distinct_few variables (bound_by bs) k.distinct (there bs k.listed))
     where
       there : (bs : List Binding) → Every Listed bs → (X : ℕ) → Memᴰ X (bound_by bs) → X < variables
+      there [] l X i = elim i [ ]
       there (b ∷ bs) l X (Memᴰ.head e) = rw e l.0.0
       there (b ∷ bs) l X (Memᴰ.tail i) = there bs l.1 X i

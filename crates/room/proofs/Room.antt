@@ -27,7 +27,8 @@ pub run_onward : (g : Ground) (k : ℕ) (e : Equation) (es : List Equation) (bs 
 unfolding run
 run_onward g k e es bs ds qs b d s = ap (next (λ es' bs' ds'. run g k es' bs' ds') e.number es bs ds) s
 
-pub reached_run : {g : Ground} {es₀ es : List Equation} {bs₀ bs : List Binding} {ds₀ ds : List Demand} → Reaches g es₀ bs₀ ds₀ es bs ds
+pub reached_run : {g : Ground} {es₀ : List Equation} {bs₀ : List Binding} {ds₀ : List Demand} {es : List Equation} {bs : List Binding} {ds : List Demand}
+    → Reaches g es₀ bs₀ ds₀ es bs ds
     → (j : ℕ) × ((k : ℕ) → run g (j + k) es₀ bs₀ ds₀ ≡ run g k es bs ds)
 reached_run {g} at_start = (0, λ k. rw zero-add)
 reached_run {g} (after_step {e} {es} {bs} {ds} {qs} {b} {d} r s) =

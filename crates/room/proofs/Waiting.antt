@@ -38,6 +38,8 @@ module _ (nodes : List Node) (bs : List Binding) (m : ℕ) where
   waiting_length (e ∷ es) (c ∷ cs) k = omega (arith, waiting_length es cs k.3)
 
   waiting_there : (es : List Equation) (cs : List ℕ) → Waiting nodes bs m es cs → (c : ℕ) → Memᴰ c cs → c < length nodes
+  waiting_there [] [] k c i = elim i [ ]
+  waiting_there (e ∷ es) [] k c i = elim i [ ]
   waiting_there [] (d ∷ cs) k c i = absurd k
   waiting_there (e ∷ es) (d ∷ cs) k c (Memᴰ.head p) = rw p k.1
   waiting_there (e ∷ es) (d ∷ cs) k c (Memᴰ.tail i) = waiting_there es cs k.3 c i
@@ -46,6 +48,8 @@ module _ (nodes : List Node) (bs : List Binding) (m : ℕ) where
     -- A node that is lighter than the first is lighter than all.
     lighter : (n : ℕ) (es : List Equation) (cs : List ℕ) → Waiting nodes bs m es cs → Under nodes bs n cs → (c : ℕ) → Memᴰ c cs
         → weight nodes w n < weight nodes w c
+    lighter n [] [] k u c i = elim i [ ]
+    lighter n (e ∷ es) [] k u c i = elim i [ ]
     lighter n [] (d ∷ cs) k u c i = absurd k
     lighter n (e ∷ es) (d ∷ cs) k u c (Memᴰ.head p) = rw p (u w respects)
     lighter n (e ∷ es) (d ∷ cs) k u c (Memᴰ.tail i) = let a = u w respects in let b = lighter d es cs k.3 k.2 c i in omega arith
