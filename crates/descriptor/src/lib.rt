@@ -83,7 +83,7 @@ fn fault_of(error: i32) -> Fault
     Fault::Lasting
 }
 
-// Waits a millisecond, or until a signal comes: long enough that waiting costs next to nothing, and too short to be noticed.
+// Waits a millisecond: long enough that waiting costs next to nothing, and too short to be noticed.
 fn rest<C: Clock>(clock: &C) {
     thread::sleep(clock, Duration::from_millis(1));
 }

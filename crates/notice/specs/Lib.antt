@@ -1,2 +1,3 @@
 -- What there is to say of an answer: definitions that contracts cite.
 pub mod Notices
+pub mod Told

@@ -1,10 +1,18 @@
 // What a program tells on standard error. A program has no exit status, and the script that starts it goes by these lines: nothing, `refused`, `refused`
-// and `text`, `cut`, or why the input could not be read or the output not be written. That a line is written is tested and not proved.
+// and `text`, `cut`, or why the input could not be read or the output not be written. Of the first four the contracts say what is written to a writer
+// that knows what it holds; that a process's standard error takes a line, and the words for why something failed, are tested and not proved.
 #![tactic(auto)]
 
 ghost use Rattle.std.specs.Prelude.{false, ◌||◌, ◌≡◌};
 ghost use Rattle.sets.specs.Bits.{among};
 ghost use Rattle.notice.specs.Notices.{plain, in_comment, looks, is_text, no_problem, notice_of};
+ghost use Rattle.notice.specs.Told.{said, cut_said, Tells};
+
+use descriptor::Answer;
+use std::fmt::InlineText;
+use std::io;
+use std::io::Write;
+use std::time::Clock;
 
 // What there is to say of an answer: text means that a problem was refused which looks like hexadecimal text.
 #[derive(Clone, Copy)]
@@ -104,29 +112,61 @@ pub fn of(number: u8, place: usize, input: &[u8]) -> Notice
     Notice::Refused
 }
 
-pub fn tell(notice: Notice) {
+// Nothing of a line is told after a write of it that failed.
+pub fn tell<W: Write, C: Clock>(errors: &mut W, clock: &C, notice: Notice)
+    ensures { Tells (W.contents errors.old) (W.contents errors.new) (said notice) }
+{
     match notice {
         Notice::Nothing => {}
         Notice::Refused => {
-            outlet::put(2, b"refused\n");
+            outlet::put(errors, clock, b"refused\n");
         }
         Notice::Text => {
-            outlet::put(2, b"refused\ntext\n");
+            outlet::put(errors, clock, b"refused\ntext\n");
         }
     }
 }
 
 // The stream ended inside a length or a problem.
-pub fn cut() {
-    outlet::put(2, b"cut\n");
+pub fn cut<W: Write, C: Clock>(errors: &mut W, clock: &C)
+    ensures { Tells (W.contents errors.old) (W.contents errors.new) cut_said }
+{
+    outlet::put(errors, clock, b"cut\n");
 }
 
-// Says why the read that has just failed did; no call may come between.
-pub fn unreadable() {
-    os::fail(b"standard input cannot be read");
+// The system's words for an error, without the number that the library puts behind them.
+fn words_of(told: &str) -> &str {
+    match told.split_once(" (os error ") {
+        Some((words, _)) => words,
+        None => told,
+    }
 }
 
-// Says why the write that has just failed did; no call may come between.
-pub fn unwritable() {
-    os::fail(b"standard output cannot be written");
+// Says what failed and why.
+fn fail<W: Write, C: Clock>(errors: &mut W, clock: &C, what: &[u8], error: i32) {
+    let told = InlineText::<256>::of(io::Error::from_raw_os_error(error));
+    outlet::put(errors, clock, what);
+    outlet::put(errors, clock, b": ");
+    outlet::put(errors, clock, words_of(told.as_str()).as_bytes());
+    outlet::put(errors, clock, b"\n");
+}
+
+// Says why the read failed that gave this answer.
+pub fn unreadable<W: Write, C: Clock>(errors: &mut W, clock: &C, answer: Answer) {
+    fail(
+        errors,
+        clock,
+        b"standard input cannot be read",
+        descriptor::error(answer),
+    );
+}
+
+// Says why the write failed that gave this answer.
+pub fn unwritable<W: Write, C: Clock>(errors: &mut W, clock: &C, answer: Answer) {
+    fail(
+        errors,
+        clock,
+        b"standard output cannot be written",
+        descriptor::error(answer),
+    );
 }
