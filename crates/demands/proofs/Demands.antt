@@ -203,7 +203,8 @@ module _ (nodes variables : ℕ) (ds : List Demand) (t : Sheet) (r : Raised node
       let after = marked 0 n k b t in
       record {
         nodes_told =
-            tells_same (λ j c. later (first_raised (is_of_node j c) ds) (eqb j n && eqb c b) k) (λ j c. first_raised (is_of_node j c) (ds ++ (d ∷ []))) nodes 0 after
+            tells_same (λ j c. later (first_raised (is_of_node j c) ds) (eqb j n && eqb c b) k) (λ j c. first_raised (is_of_node j c) (ds ++ (d ∷ [])))
+            nodes 0 after
             (λ j c. sym (first_append (is_of_node j c) ds d))
             (tells_marked 0 n k b t there (λ j c. first_raised (is_of_node j c) ds) nodes small r.nodes_told);
         variables_told =

@@ -1,6 +1,7 @@
 -- The demands that a run raises, kept as sets: a run of L steps can raise 32 times L of them, but there are few different ones. For each node and for
 -- each variable a set of atoms, and beside it the number of the equation that asked for each atom first. Definitions alone; their laws are in proofs/.
-use Rattle.std.specs.Prelude.{ℕ, ◌+◌, ◌*◌, ◌<◌, ◌≤◌, ◌≡◌, Bool, true, false, ◌&&◌, ◌||◌, cond, List, [], ◌∷◌, ◌++◌, map, length, get_or, set, drop, replicate, eqb}
+use Rattle.std.specs.Prelude.{ℕ, ◌+◌, ◌*◌, ◌<◌, ◌≤◌, ◌≡◌, Bool, true, false, ◌&&◌, ◌||◌, cond, List, [], ◌∷◌, ◌++◌, map}
+use Rattle.std.specs.Prelude.{length, get_or, set, drop, replicate, eqb}
 use Rattle.std.proofs.Math.Option.{Option, none, some}
 use Rattle.permutation.specs.Table.{Table, image, inverted}
 use Rattle.sets.specs.Bits.{member, union, inserted, members}

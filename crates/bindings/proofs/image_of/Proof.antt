@@ -5,13 +5,13 @@ use Rattle.bindings.proofs.Bindings.{image_images_of}
 use Rattle.bindings.proofs.image_of.Statement.{statement}
 use Rattle.bindings.proofs.image_of.Tie as tie
 
-cast_image : tie.Need-overflow-cast-image
+cast_image : tie.Need-overflow_cast-x
 cast_image c = search rules
 
-mul_image : tie.Need-overflow-mul-image
+mul_image : tie.Need-offset_bounds-values-x
 mul_image c = search rules
 
-index_1_image : tie.Need-bounds-1-image
+index_1_image : tie.Need-bounds-values-x
 index_1_image c = search rules
 
 image_requires : tie.Need-image-requires
@@ -19,7 +19,7 @@ image_requires c κs = search rules
 
 returns : tie.Need-returns
 returns c =
-    let a = c.before.before.before.args in
+    let a = c.args in
     c.image.ensures ∙ sym (image_images_of a.n a.values.now a.x.0 a.a.0)
 
 pub image_of_spec : {M : Type 1} → statement M

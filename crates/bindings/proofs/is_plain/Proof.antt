@@ -4,21 +4,21 @@ use Rattle.bindings.proofs.Bindings.{images_of_plain}
 use Rattle.bindings.proofs.is_plain.Statement.{statement}
 use Rattle.bindings.proofs.is_plain.Tie as tie
 
-cast_is_identity : tie.Need-overflow-cast-is-identity
+cast_is_identity : tie.Need-overflow_cast-x
 cast_is_identity c = search rules
 
-mul_is_identity : tie.Need-overflow-mul-is-identity
+mul_is_identity : tie.Need-offset_bounds-values-x
 mul_is_identity c = search rules
 
-index_1_is_identity : tie.Need-bounds-1-is-identity
+index_1_is_identity : tie.Need-bounds-values-x
 index_1_is_identity c = search rules
 
-is_identity_requires : tie.Need-is-identity-requires
+is_identity_requires : tie.Need-is_identity-requires
 is_identity_requires c κs = search rules
 
 returns : tie.Need-returns
 returns c =
-    let a = c.before.before.before.args in
+    let a = c.args in
     λ same n few. images_of_plain n a.values.now a.x.0 (c.is_identity.ensures same n few)
 
 pub is_plain_spec : {M : Type 1} → statement M

@@ -4,16 +4,16 @@ use Rattle.bindings.specs.Bindings.{node_of}
 use Rattle.bindings.proofs.node_of.Statement.{statement}
 use Rattle.bindings.proofs.node_of.Tie as tie
 
-cast_t3 : tie.Need-overflow-cast-t3
+cast_t3 : tie.Need-overflow_cast-result
 cast_t3 c = search rules
 
-mul_t6 : tie.Need-overflow-mul-t6
+mul_t6 : tie.Need-offset_bounds-made-x
 mul_t6 c = search rules
 
-index_1_t9 : tie.Need-bounds-1-t9
+index_1_t9 : tie.Need-bounds-made-1
 index_1_t9 c = search rules
 
-index_2_t9 : tie.Need-bounds-2-t9
+index_2_t9 : tie.Need-bounds-made-x
 index_2_t9 c = search rules
 
 returns : tie.Need-returns

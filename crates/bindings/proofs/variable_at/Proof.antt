@@ -4,16 +4,16 @@ use Rattle.bindings.specs.Bindings.{order_in}
 use Rattle.bindings.proofs.variable_at.Statement.{statement}
 use Rattle.bindings.proofs.variable_at.Tie as tie
 
-mul_t5 : tie.Need-overflow-mul-t5
+mul_t5 : tie.Need-offset_bounds-made-i
 mul_t5 c = search rules
 
-index_1_t8 : tie.Need-bounds-1-t8
+index_1_t8 : tie.Need-bounds-made-0
 index_1_t8 c = search rules
 
-index_2_t8 : tie.Need-bounds-2-t8
+index_2_t8 : tie.Need-bounds-made-i
 index_2_t8 c = search rules
 
-cast_t9 : tie.Need-overflow-cast-t9
+cast_t9 : tie.Need-overflow_cast-result
 unfolding order_in
 cast_t9 c = search rules
 

@@ -1,5 +1,7 @@
 -- `mark` meets its contract: an atom that is in the set already changes nothing, another one comes into the set with its equation.
-use mathlib.Core.Path.{sym, ◌∙◌}
+use Prim.Native.Nat.{ℕ}
+use lib.ListN.{set}
+use mathlib.Core.Path.{sym, ap, ◌∙◌}
 use Rattle.demands.specs.Demands.{Line, line}
 use Rattle.demands.proofs.Demands.{line_marked_again, line_marked_new}
 use borrow.Author.Rules.{rules}
@@ -56,8 +58,8 @@ returns_2 c =
     let absent = inserting.before in
     let asked = absent.before in
     let a = (start asked).args in
-    rw inserting.with-more.ensures
-    (sym (line_marked_new a.i a.number a.a.0 (row asked) (sym asked.has.ensures ∙ absent.if-has.false)))
+    ap (λ (atoms : ℕ). line (set a.sets.now a.i atoms) (set a.numbers.now a.a.0 a.number)) inserting.with-more.ensures
+    ∙ sym (line_marked_new a.i a.number a.a.0 (row asked) (sym asked.has.ensures ∙ absent.if-has.false))
 
 pub mark_spec : {M : Type 1} → statement M
 mark_spec =
