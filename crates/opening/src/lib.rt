@@ -14,6 +14,7 @@ pub enum Opening {
     Cut,
 }
 
+#[tactic(auto, unfolding(crate::specs::Head::head_said, problem::specs::Reader::good_head))]
 fn head_says(tag: u8, b: &[u8]) -> Opening
     ensures { result ≡ head_said tag b.now }
 {
@@ -32,6 +33,7 @@ fn head_says(tag: u8, b: &[u8]) -> Opening
     Opening::Good(b[0], b[1], field::four(b, 2))
 }
 
+#[tactic(auto, using(crate::proofs::Front::opened_end, crate::proofs::Front::opened_cut, crate::proofs::Front::opened_whole))]
 pub fn opened(s: &[u8]) -> Opening
     ensures { result ≡ opening_of s.now }
 {

@@ -1,2 +1,3 @@
+pub mod ByTag
 pub mod Greatest
 pub mod Saying

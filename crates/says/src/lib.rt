@@ -34,6 +34,7 @@ pub enum Said {
     Fault(u8),
 }
 
+#[tactic(auto, using(crate::proofs::ByTag::unit_said))]
 fn unit(b: &[u8], z: Sizes) -> Said
     ensures { result ≡ said_of (sized z) 0x10 b.now }
 {
@@ -46,6 +47,7 @@ fn unit(b: &[u8], z: Sizes) -> Said
     Said::Node
 }
 
+#[tactic(auto, using(crate::proofs::ByTag::atom_said))]
 fn atom(b: &[u8], z: Sizes) -> Said
     ensures { result ≡ said_of (sized z) 0x11 b.now }
 {
@@ -61,6 +63,7 @@ fn atom(b: &[u8], z: Sizes) -> Said
     Said::Node
 }
 
+#[tactic(auto, using(crate::proofs::ByTag::abstraction_said))]
 fn abstraction(b: &[u8], z: Sizes) -> Said
     ensures { result ≡ said_of (sized z) 0x12 b.now }
 {
@@ -79,6 +82,7 @@ fn abstraction(b: &[u8], z: Sizes) -> Said
     Said::Node
 }
 
+#[tactic(auto, using(crate::proofs::ByTag::pair_said))]
 fn pair(b: &[u8], z: Sizes) -> Said
     ensures { result ≡ said_of (sized z) 0x13 b.now }
 {
@@ -97,6 +101,7 @@ fn pair(b: &[u8], z: Sizes) -> Said
     Said::Node
 }
 
+#[tactic(auto, using(crate::proofs::ByTag::application_said))]
 fn application(b: &[u8], z: Sizes) -> Said
     ensures { result ≡ said_of (sized z) 0x14 b.now }
 {
@@ -130,6 +135,7 @@ pub fn all_below(b: &[u8], atoms: u8) -> bool
     most < atoms
 }
 
+#[tactic(auto, using(crate::proofs::ByTag::suspension_even, crate::proofs::ByTag::suspension_long, crate::proofs::ByTag::suspension_said))]
 fn suspension(b: &[u8], z: Sizes) -> Said
     ensures { result ≡ said_of (sized z) 0x15 b.now }
 {
@@ -151,6 +157,7 @@ fn suspension(b: &[u8], z: Sizes) -> Said
     Said::Fault(NOT_THERE)
 }
 
+#[tactic(auto, using(crate::proofs::ByTag::equation_said))]
 fn equation(b: &[u8], z: Sizes) -> Said
     ensures { result ≡ said_of (sized z) 0x20 b.now }
 {
@@ -169,6 +176,7 @@ fn equation(b: &[u8], z: Sizes) -> Said
     Said::Equation
 }
 
+#[tactic(auto, using(crate::proofs::ByTag::freshness_said))]
 fn freshness(b: &[u8], z: Sizes) -> Said
     ensures { result ≡ said_of (sized z) 0x21 b.now }
 {
@@ -187,6 +195,7 @@ fn freshness(b: &[u8], z: Sizes) -> Said
     Said::Freshness
 }
 
+#[tactic(auto, using(crate::proofs::ByTag::assumption_said))]
 fn assumption(b: &[u8], z: Sizes) -> Said
     ensures { result ≡ said_of (sized z) 0x22 b.now }
 {
@@ -202,6 +211,7 @@ fn assumption(b: &[u8], z: Sizes) -> Said
     Said::Assumption(Atom(b[0]), Variable(b[1]))
 }
 
+#[tactic(auto, using(crate::proofs::ByTag::protection_said))]
 fn protection(b: &[u8], z: Sizes) -> Said
     ensures { result ≡ said_of (sized z) 0x30 b.now }
 {
@@ -214,6 +224,7 @@ fn protection(b: &[u8], z: Sizes) -> Said
     Said::Protection(Variable(b[0]))
 }
 
+#[tactic(auto, using(crate::proofs::Saying::no_base_tag), unfolding(crate::specs::Told::said_of, problem::specs::Reader::fault))]
 pub fn field_says(tag: u8, b: &[u8], z: Sizes) -> Said
     ensures { result ≡ said_of (sized z) tag b.now }
 {
