@@ -1,8 +1,10 @@
 // What solve and judge have in common: a problem is read and worked, and its answer told of on standard error and written to standard output.
 #![tactic(auto)]
 
-ghost use Rattle.std.specs.Prelude.{◌≡◌, length};
+ghost use Rattle.std.specs.Prelude.{◌≡◌, length, take};
+ghost use Rattle.std.specs.Io.KnownBytes.{Appends};
 ghost use Rattle.notice.specs.Notices.{notice_of};
+ghost use Rattle.notice.specs.Told.{said, Tells};
 ghost use Rattle.notice.specs.declared.Notice.TheVariants.{Nothing};
 ghost use Rattle.outlet.specs.Puts.{Puts};
 
@@ -10,6 +12,8 @@ use intake::Filled;
 use notice::Notice;
 use numbers::Given;
 use outlet::Taken;
+use std::io::Write;
+use std::time::Clock;
 
 // What was given back for a problem, and where the lines that it prints end.
 #[derive(Clone, Copy)]
@@ -40,14 +44,24 @@ pub fn unread(filled: Filled) -> Served
     }
 }
 
-// Tells of the answer and writes its lines. Standard error comes first, so that no call comes after a write that failed, and errno is that write's.
-pub fn answered(filled: Filled, given: Given, problem: &[u8], lines: &[u8]) -> Served
+// Tells of the answer and writes its lines. Standard error comes first, so that no call comes after a write that failed.
+pub fn answered<W: Write, E: Write, C: Clock>(
+    output: &mut W,
+    errors: &mut E,
+    clock: &C,
+    filled: Filled,
+    given: Given,
+    problem: &[u8],
+    lines: &[u8],
+) -> Served
     ensures filled_value { (result.filled ≡ filled) × (result.notice ≡ notice_of given.number given.place problem.now) }
     ensures end_value { (result.end ≡ length lines.now) × Puts (length lines.now) result.taken }
+    ensures written { Appends (W.contents output.old) (W.contents output.new) (take result.taken.count lines.now) }
+    ensures told { Tells (E.contents errors.old) (E.contents errors.new) (said result.notice) }
 {
     let notice = notice::of(given.number, given.place, problem);
-    notice::tell(notice);
-    let taken = outlet::put(1, lines);
+    notice::tell(errors, clock, notice);
+    let taken = outlet::put(output, clock, lines);
     Served {
         filled: filled,
         notice: notice,
@@ -56,15 +70,15 @@ pub fn answered(filled: Filled, given: Given, problem: &[u8], lines: &[u8]) -> S
     }
 }
 
-// Says what went wrong, if anything did, right after it did.
-pub fn close(served: Served) {
+// Says what went wrong, if anything did.
+pub fn close<E: Write, C: Clock>(errors: &mut E, clock: &C, served: Served) {
     let filled = served.filled;
     if filled.failed {
-        notice::unreadable();
+        notice::unreadable(errors, clock, filled.last);
         return;
     }
     let taken = served.taken;
     if !outlet::is_whole(taken) {
-        notice::unwritable();
+        notice::unwritable(errors, clock, outlet::last(taken));
     }
 }
