@@ -4,9 +4,9 @@
  * variable 0. Then [a]a against [b]b, where the judge says that it holds, problems
  * that are refused, and one that its room is too small for.
  *
- *   rt staticlib cheesetrestle
- *   cc -Iinclude -o target/solve-c examples/solve.c target/staticlib/libcheesetrestle.a
- *   target/solve-c
+ *   (cd crates/cheesetrestle && rt lib)
+ *   cc -Iinclude -o solve-c examples/solve.c crates/cheesetrestle/out/libcheesetrestle.a
+ *   ./solve-c
  *
  * Or, once tools/install has installed it:
  *

@@ -1,6 +1,6 @@
 /*
  * Cheesetrestle for C: the solver and the judge of libcheesetrestle.a, which
- * `rt staticlib cheesetrestle` proves and writes to target/staticlib/ (x86-64).
+ * `rt lib` in crates/cheesetrestle/ proves and writes to out/ there (x86-64).
  * C99, and C++ as well.
  *
  * Each entry is proved to give the definition's number and place, and to leave

@@ -1,19 +1,10 @@
-# What the tests of the archive share: a compiler for it, a way to start what that makes, a count, and a room of their own. To be sourced by a test that
-# stands in the project's root.
+# What the tests of the archive share: a compiler for it, a count, and a room of their own. To be sourced by a test that stands in the project's root.
 passed=0
 failed=0
 room=$(mktemp -d) || exit 2
 trap 'rm -rf "$room"' EXIT
-archive=target/staticlib/libcheesetrestle.a
-
-if [ "$(uname -m)" = x86_64 ]; then
-    prefix= start=()
-    compiler=(cc)
-else
-    prefix=x86_64-linux-gnu-
-    compiler=("${prefix}gcc" -static)
-    start=("$(dirname "$(dirname "$(rt doc)")")/on/$(uname -m)/toolchain/bin/qemu-x86_64")
-fi
+archive=crates/cheesetrestle/out/libcheesetrestle.a
+compiler=(cc)
 strict=(-std=c99 -pedantic -O2 -Wall -Wextra -Wconversion -Wsign-conversion -Wshadow -Wundef -Wcast-qual -Wstrict-prototypes -Werror -Iinclude)
 
 check() { # WHAT COMMAND..
@@ -49,10 +40,13 @@ build() { # NAME [FILE]
     check "$1 could not be built" "${compiler[@]}" "${strict[@]}" -D_DEFAULT_SOURCE -o "$room/$1" "${2:-tests/embedding/$1.c}" "$archive"
 }
 
+# Proves the crates that the archive is made of, over what is kept of them, and makes it.
+make_archive() { (cd crates/cheesetrestle && rt lib); }
+
 # The archive: in the gate the first of these tests has just made it; a test that is run by itself makes it where it is not there or older than its sources.
 need_archive() {
-    if [ ! -f "$archive" ] || [ -n "$(find crates.txt crates -newer "$archive" -type f -print -quit)" ]; then
-        rt staticlib cheesetrestle >"$room/said" 2>&1 || { cat "$room/said"; echo "the archive could not be made"; echo "0 passed, 1 failed"; exit 1; }
+    if [ ! -f "$archive" ] || [ -n "$(find crates.txt crates -name out -prune -o -newer "$archive" -type f -print -quit)" ]; then
+        make_archive >"$room/said" 2>&1 || { cat "$room/said"; echo "the archive could not be made"; echo "0 passed, 1 failed"; exit 1; }
     fi
 }
 

@@ -85,7 +85,7 @@ class Parameter:
 
 class Entry:
     def __init__(self, name, crate):
-        match = found(r"#\[no_mangle\]\npub extern \"C\" fn %s\((.*?)\) -> (u\d+)" % name, crate, "the export " + name)
+        match = found(r"#\[unsafe\(no_mangle\)\]\npub extern \"C\" fn %s\((.*?)\) -> (u\d+)" % name, crate, "the export " + name)
         words = [word.strip() for word in re.split(r",\s*(?![^\[]*\])", match.group(1)) if word.strip()]
         self.name = name
         self.result = WIDTHS[match.group(2)][0]
@@ -156,9 +156,9 @@ def compare_numbers(comparison):
 
 
 def compare_constants(comparison, header):
-    proved = found(r"pub answer-room : .*?≤ (\d+)\n", text_of("crates/room/proofs/Answers.antt"), "the law of an answer's room").group(1)
+    proved = found(r"pub answer_room : .*?≤ (\d+)\n", text_of("crates/room/proofs/Answers.antt"), "the law of an answer's room").group(1)
     comparison.same("an answer's room", proved, found(r"#define CHEESETRESTLE_ANSWER_ROOM (\d+)\n", text_of("include/cheesetrestle.h"), "its macro").group(1))
-    stated = found(r"fn cheesetrestle_version\(\) -> u32\n\s*ensures \{ λ r\. ⌜ r ≡ (\d+) ⌝ \}", text_of(CRATE), "the version's contract").group(1)
+    stated = found(r"fn cheesetrestle_version\(\) -> u32\n\s*ensures \{ result ≡ (\d+) \}", text_of(CRATE), "the version's contract").group(1)
     version = [found(r"#define CHEESETRESTLE_VERSION_%s (\d+) " % part, header, "the version's macro").group(1) for part in ("MAJOR", "MINOR", "PATCH")]
     major, minor, patch = (int(part) for part in version)
     comparison.same("the version", int(stated), 10000 * major + 100 * minor + patch)
