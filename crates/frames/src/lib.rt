@@ -5,6 +5,8 @@ ghost use Rattle.std.specs.Prelude.{◌≡◌, ◌⊎◌, ◌≤◌, ◌<◌, mi
 ghost use Rattle.frames.specs.Came.{Told};
 
 use intake::Filled;
+use std::io::Read;
+use std::time::Clock;
 
 // How the next problem came: whole, in so many of the lent bytes; the stream ended before it, or inside its length or its bytes; a read failed.
 #[derive(Clone, Copy)]
@@ -35,12 +37,18 @@ fn least(a: usize, b: usize) -> usize
 }
 
 // Reads as many bytes as are wanted to the front of the lent ones. Once they are there, n of the lent bytes are what is to come.
-fn part(input: &mut [u8], wanted: usize, n: usize) -> Reading
+fn part<R: Read, C: Clock>(
+    reader: &mut R,
+    clock: &C,
+    input: &mut [u8],
+    wanted: usize,
+    n: usize,
+) -> Reading
     requires wanted_in_bounds { wanted ≤ length input.old }
     requires fact { (n ≡ wanted) ⊎ (n ≡ length input.old) }
     ensures { Told (length input.new) result }
 {
-    let filled = intake::fill(0, &mut input[..wanted]);
+    let filled = intake::fill(reader, clock, &mut input[..wanted]);
     if filled.failed {
         return Reading {
             came: Came::Unreadable,
@@ -63,7 +71,13 @@ fn part(input: &mut [u8], wanted: usize, n: usize) -> Reading
 }
 
 // Passes over as many bytes as are left of a problem that is longer than the room: the room stands for it.
-fn passed(input: &mut [u8], more: usize, front: Reading) -> Reading
+fn passed<R: Read, C: Clock>(
+    reader: &mut R,
+    clock: &C,
+    input: &mut [u8],
+    more: usize,
+    front: Reading,
+) -> Reading
     requires input_nonzero { 0 < length input.old }
     requires told { Told (length input.old) front }
     ensures { Told (length input.new) result }
@@ -73,7 +87,7 @@ fn passed(input: &mut [u8], more: usize, front: Reading) -> Reading
     while 0 < left {
         let room = input.len();
         let most = least(left, room);
-        last = part(input, most, room);
+        last = part(reader, clock, input, most, room);
         let came = last.came;
         let Came::Whole(_) = came else {
             return last;
@@ -84,25 +98,25 @@ fn passed(input: &mut [u8], more: usize, front: Reading) -> Reading
 }
 
 // A problem of so many bytes. One that is longer than the lent bytes fills them, and its rest is passed over.
-fn body(input: &mut [u8], size: usize) -> Reading
+fn body<R: Read, C: Clock>(reader: &mut R, clock: &C, input: &mut [u8], size: usize) -> Reading
     requires { 0 < length input.old }
     ensures { Told (length input.new) result }
 {
     let n = least(size, input.len());
-    let front = part(input, n, n);
+    let front = part(reader, clock, input, n, n);
     let came = front.came;
     let Came::Whole(_) = came else {
         return front;
     };
-    passed(input, size - n, front)
+    passed(reader, clock, input, size - n, front)
 }
 
 // The next problem, after its length. Where not even the first byte of the length comes, the stream is at its end.
-pub fn next(input: &mut [u8]) -> Reading
+pub fn next<R: Read, C: Clock>(reader: &mut R, clock: &C, input: &mut [u8]) -> Reading
     requires { 4 ≤ length input.old }
     ensures { Told (length input.new) result }
 {
-    let head = part(input, 4, 4);
+    let head = part(reader, clock, input, 4, 4);
     let filled = head.filled;
     if filled.failed {
         return head;
@@ -119,5 +133,5 @@ pub fn next(input: &mut [u8]) -> Reading
         return head;
     };
     let size = field::four(input, 0) as usize;
-    body(input, size)
+    body(reader, clock, input, size)
 }
