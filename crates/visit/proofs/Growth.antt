@@ -277,14 +277,15 @@ pub looked_settled : {nodes : List Node} {value : ℕ → Option Side} {Mark : P
     → Settled nodes Mark
 looked_settled looked a n X π e h = looked (of_node a n) h _ (to_variable e)
 
+-- What waits are suspensions, where nothing waited before.
+pub late_suspended : {nodes : List Node} {atoms n : ℕ} {Before After : Pair → Type 0} {late late₁ : List ℕ} → ((m : ℕ) → Late late m → ⊥)
+    → PartsVisited nodes atoms n Before After late late₁ → (m : ℕ) → Late late₁ m → SuspendedAt nodes m
+late_suspended none_late v m k = ⊎_elim (λ q. absurd (none_late m q)) (λ q. q) (v.waits.new m k)
+
 -- Before, what was seen at suspensions had been asked of their variables; then the parts were visited, and what waits was asked.
 module _ {p : Problem} {atoms n : ℕ} {Before : Pair → Type 0} {seen variables late late₁ : List ℕ}
     (settled : Settled p.nodes Before) (none_late : (m : ℕ) → Late late m → ⊥)
     (v : PartsVisited p.nodes atoms n Before (Marked p seen variables) late late₁) where
-  -- What waits are suspensions.
-  pub late_suspended : (m : ℕ) → Late late₁ m → SuspendedAt p.nodes m
-  late_suspended m k = ⊎_elim (λ q. absurd (none_late m q)) (λ q. q) (v.waits.new m k)
-
   module _ {variables₁ : List ℕ} (asked : SwapsAsked p seen (Late late₁) variables variables₁) where
     abbrev After : Pair → Type 0
     After = Marked p seen variables₁
@@ -294,7 +295,7 @@ module _ {p : Problem} {atoms n : ℕ} {Before : Pair → Type 0} {seen variable
     through value (of_node a m) b k =
         ⊎_elim (λ c u l. asked.kept u (c u l))
         (λ q.
-        let s = late_suspended m q in
+        let s = late_suspended none_late v m q in
         closed_by After a m (suspension_form s.swaps s.variable) s.form (asked.all _ (sent a m q b s.form))) k
     through value (of_variable a X) b k = tt
 

@@ -73,20 +73,20 @@ module _ (t : ℕ) where
 
   -- Where the node's row is read, where the new atoms are, and where the form is.
   abbrev Row : Type 0
-  Row = parts_lts.After_atoms_at_arg2 claims parts_at parts.Post
+  Row = parts_lts.After-atoms_at-arg-2-1 claims parts_at parts.Post
 
   abbrev Found : Type 0
-  Found = parts_lts.After_minus claims parts_at parts.Post
+  Found = parts_lts.After-minus-new claims parts_at parts.Post
 
   abbrev Here : Type 0
-  Here = parts_lts.After_form_at claims parts_at parts.Post
+  Here = parts_lts.After-form_at-form claims parts_at parts.Post
 
   -- The form is known to be a pair, and then its parts to be two nodes.
   abbrev Paired : Type 0
-  Paired = parts_lts.After_form3 claims parts_at parts.Post
+  Paired = parts_lts.In-Pair claims parts_at parts.Post
 
   abbrev Apart : Type 0
-  Apart = parts_lts.After_struct_known4 claims parts_at parts.Post
+  Apart = parts_lts.After-struct_known-in-Pair-3-1 claims parts_at parts.Post
 
   -- ---- at the node's row
 
@@ -99,13 +99,13 @@ module _ (t : ℕ) where
     Input = InTable start.args.places.now start.args.node
 
     some_input : Input
-    some_input = start.pre.1
+    some_input = start.requires.1
 
     small_node : start.args.node < 512
     small_node = (some_input.stands.nodes start.args.node some_input.few).small
 
     in_row : start.args.node < length start.args.seen.now
-    in_row = omega (arith, small_node, c.atoms-at-arg2.given)
+    in_row = omega (arith, small_node, c.atoms_at-arg-2-1.given)
 
   -- ---- at the new atoms
 
@@ -114,10 +114,10 @@ module _ (t : ℕ) where
     row = c.before.before
 
     abbrev new : ℕ
-    new = c.minus.result.0
+    new = c.minus-new.result.0
 
     is_new : new ≡ difference (start row).args.atoms (get_or (start row).args.seen.now (start row).args.node 0)
-    is_new = c.minus.ensures ∙ ap (difference (start row).args.atoms) c.before.atoms_at.ensures
+    is_new = c.minus-new.ensures ∙ ap (difference (start row).args.atoms) c.before.atoms_at.ensures
 
   -- ---- at the form
 
@@ -130,11 +130,11 @@ module _ (t : ℕ) where
 
     -- The column with the new atoms.
     abbrev seen : List ℕ
-    seen = c.before.add_atoms.new.0
+    seen = c.before.add_atoms.new.rows
 
     -- A part may be visited.
     may_visit : (m : ℕ) → m < begun.args.node → (m < t) × InTable begun.args.places.now m
-    may_visit m h = (rw begun.pre.0 at h, part begun.pre.1 m h)
+    may_visit m h = (rw begun.requires.0 at h, part begun.requires.1 m h)
 
     module _ (i : Input (row found)) where
       noted : Noted (problem_of i.input) begun.args.atoms begun.args.node begun.args.seen.now begun.args.on_variables.now (new found) seen
@@ -143,15 +143,15 @@ module _ (t : ℕ) where
       abbrev form : Node
       form = form_at (problem_of i.input).nodes begun.args.node
 
-      as_kept : c.form_at.result ≡ form_told form
-      as_kept = c.form_at.ensures ∙ form_kept _ _ _ i.bytes (i.stands.nodes _ i.few)
+      as_kept : c.form_at-form.result ≡ form_told form
+      as_kept = c.form_at-form.ensures ∙ form_kept _ _ _ i.bytes (i.stands.nodes _ i.few)
 
       -- The form, as the code was told it.
-      told : {r : Form} → c.form_at.result ≡ r → form ≡ untold (own_swaps form) r
+      told : {r : Form} → c.form_at-form.result ≡ r → form ≡ untold (own_swaps form) r
       told q = told_back form (sym q ∙ as_kept)
 
       -- The form's parts are below the node, and its variable is one of the problem's.
-      named : {r : Form} → c.form_at.result ≡ r
+      named : {r : Form} → c.form_at-form.result ≡ r
           → Named (problem_of i.input).atoms (problem_of i.input).variables begun.args.node (untold (own_swaps form) r)
       named q = named_told i.stands.readable _ (sym q ∙ as_kept)
 
@@ -159,20 +159,20 @@ module _ (t : ℕ) where
 
   module _ (c : Paired) where
     abbrev pair_here : Here
-    pair_here = c.before.before
+    pair_here = c.before
 
     abbrev left : ℕ
-    left = c.form3.given.0.0.0
+    left = c.in-Pair.l.0
 
     abbrev right : ℕ
-    right = c.form3.given.0.1.0.0
+    right = c.in-Pair.r.0
 
     module _ (i : Input (row (found pair_here))) where
       is_pair : form pair_here i ≡ pair_form left right
-      is_pair = told pair_here i c.form3.given.1
+      is_pair = told pair_here i c.in-Pair.is
 
       both_below : (left < (begun pair_here).args.node) × (right < (begun pair_here).args.node)
-      both_below = named pair_here i c.form3.given.1
+      both_below = named pair_here i c.in-Pair.is
 
     may_visit_left : (left < t) × InTable (begun pair_here).args.places.now left
     may_visit_left = may_visit pair_here left (both_below (some_input (row (found pair_here)))).0
@@ -181,148 +181,148 @@ module _ (t : ℕ) where
     may_visit_right = may_visit pair_here right (both_below (some_input (row (found pair_here)))).1
 
   abbrev paired : Apart → Paired
-  paired c = c.before.before.before.before.before.before
+  paired c = c.before.before.before.before.before
 
   -- ---- what is to be shown, in the code's order
 
-  parts_atoms_at_requires : parts_lts.Need_atoms_at_requires claims parts_at parts.Post
+  parts_atoms_at_requires : parts_lts.Need-atoms_at-requires claims parts_at parts.Post
   parts_atoms_at_requires c κs = in_row c
 
-  parts_minus_requires : parts_lts.Need_minus_requires claims parts_at parts.Post
+  parts_minus_requires : parts_lts.Need-minus-new-requires claims parts_at parts.Post
   parts_minus_requires c κs = search rules
 
-  parts_is_empty_requires : parts_lts.Need_is_empty_requires claims parts_at parts.Post
+  parts_is_empty_requires : parts_lts.Need-is_empty-requires claims parts_at parts.Post
   parts_is_empty_requires c κs = search rules
 
-  parts_returns : parts_lts.Need_returns claims parts_at parts.Post
+  parts_returns : parts_lts.Need-returns-then-is_empty claims parts_at parts.Post
   parts_returns c =
       let at_new = c.before.before in
-      let none_new = sym (is_new at_new) ∙ eqb-true _ 0 (sym c.before.is_empty.ensures ∙ c.if1.true) in
-      λ i. visited_again _ _ _ _ _ _ i.few none_new
+      let none_new = sym (is_new at_new) ∙ eqb-true _ 0 (sym c.before.is_empty.ensures ∙ c.if-is_empty.true) in
+      λ i. visited_again (problem_of i.input) _ _ _ _ _ i.few none_new
 
-  parts_add_atoms_requires : parts_lts.Need_add_atoms_requires claims parts_at parts.Post
-  parts_add_atoms_requires c κs = omega (arith, in_row (row c.before.before.before), c.add-atoms-arg.given)
+  parts_add_atoms_requires : parts_lts.Need-add_atoms-requires claims parts_at parts.Post
+  parts_add_atoms_requires c κs = omega (arith, in_row (row c.before.before.before), c.add_atoms-arg-1.given)
 
-  parts_form_at_requires : parts_lts.Need_form_at_requires claims parts_at parts.Post
+  parts_form_at_requires : parts_lts.Need-form_at-form-requires claims parts_at parts.Post
   parts_form_at_requires c κs = small_node (row c.before.before.before.before)
 
-  parts_enum_told : parts_lts.Need_enum_told claims parts_at parts.Post
+  parts_enum_told : parts_lts.Need-enum_told-1 claims parts_at parts.Post
   parts_enum_told c = search rules
 
-  parts_returns_2 : parts_lts.Need_returns_2 claims parts_at parts.Post
-  parts_returns_2 c = let here = c.before.before in λ i. visited_unit (noted here i) (told here i c.enum_told.given.1)
+  parts_returns_2 : parts_lts.Need-returns-in-Unit claims parts_at parts.Post
+  parts_returns_2 c = let here = c.before in λ i. visited_unit (noted here i) (told here i c.in-Unit.is)
 
-  parts_enum_known_form : parts_lts.Need_enum_known_form claims parts_at parts.Post
+  parts_enum_known_form : parts_lts.Need-enum_known-form claims parts_at parts.Post
   parts_enum_known_form c = search rules
 
-  parts_returns_3 : parts_lts.Need_returns_3 claims parts_at parts.Post
-  parts_returns_3 c = let here = c.before.before.before in λ i. visited_atom (noted here i) (told here i c.before.form.given.1)
+  parts_returns_3 : parts_lts.Need-returns-in-Atom claims parts_at parts.Post
+  parts_returns_3 c = let here = c.before in λ i. visited_atom (noted here i) (told here i c.in-Atom.is)
 
-  parts_enum_known_form_2 : parts_lts.Need_enum_known_form_2 claims parts_at parts.Post
+  parts_enum_known_form_2 : parts_lts.Need-enum_known-form-in-Abstraction-1 claims parts_at parts.Post
   parts_enum_known_form_2 c = search rules
 
-  parts_without_requires : parts_lts.Need_without_requires claims parts_at parts.Post
+  parts_without_requires : parts_lts.Need-without-rest-requires claims parts_at parts.Post
   parts_without_requires c κs = search rules
 
-  parts_parts_requires : parts_lts.Need_parts_requires claims parts_at parts.Post
+  parts_parts_requires : parts_lts.Need-parts-requires claims parts_at parts.Post
   parts_parts_requires c κs =
-      let known = c.before.before.before.before.before in
-      let here = known.before.before in
-      may_visit here _ (named here (some_input (row (found here))) known.form2.given.1).1
+      let known = c.before.before.before.before in
+      let here = known.before in
+      may_visit here _ (named here (some_input (row (found here))) known.in-Abstraction.is).1
 
-  parts_returns_4 : parts_lts.Need_returns_4 claims parts_at parts.Post
+  parts_returns_4 : parts_lts.Need-returns-in-Abstraction claims parts_at parts.Post
   parts_returns_4 c =
       let without = c.before.before.before.before in
-      let known = without.before.before in
-      let here = known.before.before in
+      let known = without.before in
+      let here = known.before in
       λ i.
-      visited_abstraction (noted here i) (told here i known.form2.given.1) without.without.ensures
-      (c.parts.ensures (part i _ (named here i known.form2.given.1).1))
+      visited_abstraction (noted here i) (told here i known.in-Abstraction.is) without.without-rest.ensures
+      (c.parts.ensures (part i _ (named here i known.in-Abstraction.is).1))
 
-  parts_enum_known_form_3 : parts_lts.Need_enum_known_form_3 claims parts_at parts.Post
+  parts_enum_known_form_3 : parts_lts.Need-enum_known-form-in-Pair-1 claims parts_at parts.Post
   parts_enum_known_form_3 c = search rules
 
-  parts_parts_requires_2 : parts_lts.Need_parts_requires_2 claims parts_at parts.Post
-  parts_parts_requires_2 c κs = may_visit_right c.before.before.before.before.before.before.before
+  parts_parts_requires_2 : parts_lts.Need-parts-requires-then-l-r claims parts_at parts.Post
+  parts_parts_requires_2 c κs = may_visit_right c.before.before.before.before.before.before
 
-  parts_returns_5 : parts_lts.Need_returns_5 claims parts_at parts.Post
+  parts_returns_5 : parts_lts.Need-returns-then-l-r claims parts_at parts.Post
   parts_returns_5 c =
       let test = c.before.before.before.before in
-      let pair = test.before.before.before.before in
+      let pair = test.before.before.before in
       λ i.
-      visited_twins (noted (pair_here pair) i) (is_pair pair i) test.if2.true
-      (c.parts2.ensures (part i _ (both_below pair i).1))
+      visited_twins (noted (pair_here pair) i) (is_pair pair i) test.if-l-r.true
+      (c.parts-then-l-r.ensures (part i _ (both_below pair i).1))
 
-  parts_parts_requires_3 : parts_lts.Need_parts_requires_3 claims parts_at parts.Post
+  parts_parts_requires_3 : parts_lts.Need-parts-requires-then-l-r-2 claims parts_at parts.Post
   parts_parts_requires_3 c κs = may_visit_left (paired c.before.before.before.before)
 
-  parts_parts_requires_4 : parts_lts.Need_parts_requires_4 claims parts_at parts.Post
+  parts_parts_requires_4 : parts_lts.Need-parts-requires-then-l-r-2-2 claims parts_at parts.Post
   parts_parts_requires_4 c κs = may_visit_right (paired c.before.before.before.before.before.before.before.before)
 
-  parts_returns_6 : parts_lts.Need_returns_6 claims parts_at parts.Post
+  parts_returns_6 : parts_lts.Need-returns-then-l-r-2 claims parts_at parts.Post
   parts_returns_6 c =
       let first = c.before.before.before.before in
       let pair = paired first.before.before.before.before.before in
       λ i.
-      visited_pair (noted (pair_here pair) i) (is_pair pair i) (first.parts3.ensures (part i _ (both_below pair i).0))
-      (c.parts4.ensures (part i _ (both_below pair i).1))
+      visited_pair (noted (pair_here pair) i) (is_pair pair i) (first.parts-then-l-r-2.ensures (part i _ (both_below pair i).0))
+      (c.parts-then-l-r-2-2.ensures (part i _ (both_below pair i).1))
 
-  parts_parts_requires_5 : parts_lts.Need_parts_requires_5 claims parts_at parts.Post
+  parts_parts_requires_5 : parts_lts.Need-parts-requires-in-Pair claims parts_at parts.Post
   parts_parts_requires_5 c κs = may_visit_right (paired c.before.before.before.before)
 
-  parts_parts_requires_6 : parts_lts.Need_parts_requires_6 claims parts_at parts.Post
+  parts_parts_requires_6 : parts_lts.Need-parts-requires-in-Pair-2 claims parts_at parts.Post
   parts_parts_requires_6 c κs = may_visit_left (paired c.before.before.before.before.before.before.before.before)
 
-  parts_returns_7 : parts_lts.Need_returns_7 claims parts_at parts.Post
+  parts_returns_7 : parts_lts.Need-returns-in-Pair claims parts_at parts.Post
   parts_returns_7 c =
       let first = c.before.before.before.before in
       let pair = paired first.before.before.before.before.before in
       λ i.
-      visited_pair_right (noted (pair_here pair) i) (is_pair pair i) (first.parts5.ensures (part i _ (both_below pair i).1))
-      (c.parts6.ensures (part i _ (both_below pair i).0))
+      visited_pair_right (noted (pair_here pair) i) (is_pair pair i) (first.parts-in-Pair.ensures (part i _ (both_below pair i).1))
+      (c.parts-in-Pair-2.ensures (part i _ (both_below pair i).0))
 
-  parts_enum_known_form_4 : parts_lts.Need_enum_known_form_4 claims parts_at parts.Post
+  parts_enum_known_form_4 : parts_lts.Need-enum_known-form-in-Application-1 claims parts_at parts.Post
   parts_enum_known_form_4 c = search rules
 
-  parts_parts_requires_7 : parts_lts.Need_parts_requires_7 claims parts_at parts.Post
+  parts_parts_requires_7 : parts_lts.Need-parts-requires-in-Application claims parts_at parts.Post
   parts_parts_requires_7 c κs =
-      let known = c.before.before.before.before in
-      let here = known.before.before in
-      may_visit here _ (named here (some_input (row (found here))) known.form4.given.1)
+      let known = c.before.before.before in
+      let here = known.before in
+      may_visit here _ (named here (some_input (row (found here))) known.in-Application.is)
 
-  parts_returns_8 : parts_lts.Need_returns_8 claims parts_at parts.Post
+  parts_returns_8 : parts_lts.Need-returns-in-Application claims parts_at parts.Post
   parts_returns_8 c =
-      let known = c.before.before.before.before.before in
-      let here = known.before.before in
+      let known = c.before.before.before.before in
+      let here = known.before in
       λ i.
-      visited_application (noted here i) (told here i known.form4.given.1)
-      (c.parts7.ensures (part i _ (named here i known.form4.given.1)))
+      visited_application (noted here i) (told here i known.in-Application.is)
+      (c.parts-in-Application.ensures (part i _ (named here i known.in-Application.is)))
 
-  parts_enum_known_form_5 : parts_lts.Need_enum_known_form_5 claims parts_at parts.Post
+  parts_enum_known_form_5 : parts_lts.Need-enum_known-form-in-Suspension-1 claims parts_at parts.Post
   parts_enum_known_form_5 c = search rules
 
-  parts_come_requires : parts_lts.Need_come_requires claims parts_at parts.Post
+  parts_come_requires : parts_lts.Need-come-requires claims parts_at parts.Post
   parts_come_requires c κs =
-      let known = c.before.before.before in
-      let here = known.before.before in
+      let known = c.before.before in
+      let here = known.before in
       let at_row = row (found here) in
-      let variables = (named here (some_input at_row) known.form5.given.1).0 in (
+      let variables = (named here (some_input at_row) known.in-Suspension.is).0 in (
         small_node at_row,
-        omega (arith, small_node at_row, c.come-arg2.given),
-        omega (arith, variables, (some_input at_row).stands.readable.few_variables, c.before.come-arg.given),
+        omega (arith, small_node at_row, c.come-arg-in-Suspension-1.given),
+        omega (arith, variables, (some_input at_row).stands.readable.few_variables, c.before.come-arg-1.given),
       )
 
-  parts_returns_9 : parts_lts.Need_returns_9 claims parts_at parts.Post
+  parts_returns_9 : parts_lts.Need-returns-in-Suspension claims parts_at parts.Post
   parts_returns_9 c =
-      let known = c.before.before.before.before in
-      let here = known.before.before in
+      let known = c.before.before.before in
+      let here = known.before in
       let small = small_node (row (found here)) in
       λ i.
       let bare = variable_kept _ _ _ i.bytes (i.stands.nodes _ i.few) in
-      let variables = (named here i known.form5.given.1).0 in
-      visited_suspension (noted here i) (told here i known.form5.given.1) bare c.come.ensures variables
-      (omega (arith, variables, i.stands.readable.few_variables, c.before.before.come-arg.given))
-      (omega (arith, small, c.before.come-arg2.given))
+      let variables = (named here i known.in-Suspension.is).0 in
+      visited_suspension (noted here i) (told here i known.in-Suspension.is) bare c.come.ensures variables
+      (omega (arith, variables, i.stands.readable.few_variables, c.before.before.come-arg-1.given))
+      (omega (arith, small, c.before.come-arg-in-Suspension-1.given))
 
 pub +parts_spec : {M : Type 1} → statement M
 +parts_spec = close μ_parts λ t. parts_lts.spec (claims t)

@@ -4,19 +4,19 @@ use Rattle.visit.proofs.Asking.{asked_none}
 use Rattle.visit.proofs.ask_late.Statement.{statement}
 use Rattle.visit.proofs.ask_late.Tie as tie
 
-none_waits_requires : tie.Need-none-waits-requires
+none_waits_requires : tie.Need-none_waits-requires
 none_waits_requires c κs = search rules
 
-returns : tie.Need-returns
-returns c = asked_none (c.before.none_waits.ensures c.if1.true)
+returns : tie.Need-returns-then-none_waits
+returns c = asked_none (c.before.none_waits.ensures c.if-none_waits.true)
 
-ask_words_requires : tie.Need-ask-words-requires
+ask_words_requires : tie.Need-ask_words-requires
 ask_words_requires c κs = search rules
 
-same_length : tie.Need-same-length
+same_length : tie.Need-shape_of-on_variables
 same_length c = search rules
 
-returns_2 : tie.Need-returns-2
+returns_2 : tie.Need-returns
 returns_2 c = search rules
 
 pub ask_late_spec : {M : Type 1} → statement M

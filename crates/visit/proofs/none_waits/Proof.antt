@@ -10,43 +10,43 @@ use Rattle.visit.proofs.Waiting.{none_in_empty, late_inside, joined_none}
 use Rattle.visit.proofs.none_waits.Statement.{statement}
 use Rattle.visit.proofs.none_waits.Tie as tie
 
-abbrev invariant_loop : tie.invariant-loop
+abbrev invariant_loop : tie.invariant-loop-i
 invariant_loop late all₀ i₀ all i = (i ≤ length late) × (all ≡ 0 → (j : ℕ) → j < i → get_or late j 0 ≡ 0)
 
-abbrev decreases_loop : tie.decreases-loop
+abbrev decreases_loop : tie.decreases-loop-i
 decreases_loop late all₀ i₀ all i = length late - i
 
-loop_holds : tie.Need-loop-init invariant_loop decreases_loop
+loop_holds : tie.Need-loop-i-init invariant_loop decreases_loop
 loop_holds c = (omega arith, λ e j h. absurd (omega arith))
 
-mul_all : tie.Need-overflow-mul-all invariant_loop decreases_loop
+mul_all : tie.Need-offset_bounds-late-i invariant_loop decreases_loop
 mul_all c = search rules
 
-shared_slice_read_all : tie.Need-shared-slice-read-all invariant_loop decreases_loop
+shared_slice_read_all : tie.Need-bounds-late-i invariant_loop decreases_loop
 shared_slice_read_all c = search rules
 
-add_i : tie.Need-overflow-add-i invariant_loop decreases_loop
+add_i : tie.Need-overflow_add-i invariant_loop decreases_loop
 add_i c = search rules
 
-loop_less : tie.Need-loop-smaller invariant_loop decreases_loop
+loop_less : tie.Need-loop-i-smaller invariant_loop decreases_loop
 loop_less c = search rules
 
-loop_again : tie.Need-loop-preserved invariant_loop decreases_loop
+loop_again : tie.Need-loop-i-preserved invariant_loop decreases_loop
 loop_again c =
     let turn = c.before.before in
     let late = turn.before.args.late.now in
-    let next = turn.loop.i in (
+    let next = turn.loop-i.i in (
       omega arith,
       λ e j h.
-          let both = joined_none turn.loop.all (get_or late next 0) e in
-          by_eq j next (λ q. rw q both.1) (λ d. turn.loop.invariant.1 both.0 j (omega arith)),
+          let both = joined_none turn.loop-i.all (get_or late next 0) e in
+          by_eq j next (λ q. rw q both.1) (λ d. turn.loop-i.invariant.1 both.0 j (omega arith)),
     )
 
 returns : tie.Need-returns invariant_loop decreases_loop
 returns c = λ e n k.
     let turn = c.before in
     let late = turn.before.args.late.now in
-    let word = turn.loop.invariant.1 (eqb-true _ 0 e) (n / 64) (omega (arith, late_inside late n k)) in
+    let word = turn.loop-i.invariant.1 (eqb-true _ 0 e) (n / 64) (omega (arith, late_inside late n k)) in
     none_in_empty n late word k
 
 pub none_waits_spec : {M : Type 1} → statement M

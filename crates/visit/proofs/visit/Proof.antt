@@ -7,21 +7,21 @@ use Rattle.visit.proofs.visit.Statement.{statement}
 use Rattle.visit.proofs.visit.Tie as tie
 
 -- The input is one whose table this is.
-abbrev this : (c : tie.After-shared-slice-known) → InTable c.before.args.places.now c.before.args.node.0
+abbrev this : (c : tie.After-shared_slice_known-1) → InTable c.before.args.places.now c.before.args.node.0
 this c = let start = c.before in
-    record { input = start.args.s.now; bytes = λ i. (c.shared-slice-known.given i).fits; stands = start.requires.0.0; few = start.requires.0.1 }
+    record { input = start.args.s.now; bytes = λ i. (c.shared_slice_known-1.given i).fits; stands = start.requires.0.0; few = start.requires.0.1 }
 
 -- ---- what is to be shown, in the code's order
 
 parts_requires : tie.Need-parts-requires
 parts_requires c κs = this c.before.before.before
 
-ask_late_requires : tie.Need-ask-late-requires
+ask_late_requires : tie.Need-ask_late-requires
 ask_late_requires c κs =
     let visited = c.before.before.before.before in
     let known = visited.before.before.before.before in
     let start = known.before in (
-      (start.requires.0.0, late_suspended start.requires.1 (none_in_zeros 8) (visited.parts.ensures (this known))),
+      (start.requires.0.0, late_suspended (none_in_zeros 8) (visited.parts.ensures (this known))),
       (omega arith, omega arith),
     )
 

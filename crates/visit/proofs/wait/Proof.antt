@@ -9,28 +9,28 @@ use Rattle.visit.specs.Parts.{with_late}
 use Rattle.visit.proofs.wait.Statement.{statement}
 use Rattle.visit.proofs.wait.Tie as tie
 
-cast_i : tie.Need-overflow-cast-i
+cast_i : tie.Need-overflow_cast-i
 cast_i c = search rules
 
-mul_late : tie.Need-overflow-mul-late
+mul_late : tie.Need-offset_bounds-late-i
 mul_late c = search rules
 
-slice_read_late : tie.Need-slice-read-late
+slice_read_late : tie.Need-bounds-late-i
 slice_read_late c = search rules
 
-cast_late : tie.Need-overflow-cast-late
+cast_late : tie.Need-overflow_cast-late
 cast_late c = search rules
 
-shl_late : tie.Need-overflow-shl-late
+shl_late : tie.Need-overflow_shl-late
 shl_late c = search rules
 
-mul_late_2 : tie.Need-overflow-mul-late-2
+mul_late_2 : tie.Need-offset_bounds-late-i-2
 mul_late_2 c = search rules
 
-slice_write_late : tie.Need-slice-write-late
+slice_write_late : tie.Need-bounds-late-i-2
 slice_write_late c = search rules
 
-same_length : tie.Need-same-length
+same_length : tie.Need-shape_of-late
 same_length c = search rules
 
 returns : tie.Need-returns
