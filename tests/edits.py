@@ -1,244 +1,205 @@
 #!/usr/bin/env python3
-"""Make wrong code and wrong definitions, and see that the prover refuses each of them where it is wrong.
+"""See that each wrong change of the code and of the definitions was refused where it is wrong.
 
-    edits.py [--beside] [NAME...]
+    edits.py [LOG [NAME...]]
 
-crates/NAME/must-fail/PLACE/LABEL.edit is one wrong change of the crate NAME (with no NAME, of every crate): a line `file: FILE` says of which file, and
-each pair of lines `old: TEXT` and `new: TEXT` behind it what stands there, once, and what is put in its place. With it a fact has to fail at PLACE: the
-function NAME::PLACE is not proved, and not for the sake of another that it calls; or a law of proofs/PLACE.antt fails, and not for the sake of another. An
-edit keeps the code's shape: the proof has to fit it. target/edits/NAME/LABEL has what was said.
+crates/NAME/must-fail/LABEL.edit is one wrong change of the crate NAME: a line `file: FILE` says of which file, and each pair of lines `old: TEXT` and
+`new: TEXT` behind it what stands there, once, and what is put in its place. `rt ci` makes each change in a copy of the crate, which the prover has to refuse.
+Where it is wrong says a line `# At PLACE.` in its head: the function NAME::PLACE, or a law of proofs/PLACE.antt. What failed first has to lie there, as `rt
+ci` told it: LOG (target/rt-ci.log, which .ci/proofs leaves) has what it said. An edit's proof has to fit it: where something that is still true would stand in
+the way, the edit changes that line of the proof, too.
 
-`rt ci` proves every crate from nothing. Here an edit is tried in a copy of its crate (`rt dev`), over a copy of what the prover has found out of the crate
-without the edit, which stands in the crate's library: so it looks only at what the edit changes. First one crate without an edit has to be proved, from
-nothing and over such a copy: so what is refused then is not refused for another reason.
-
---beside: `rt ci` proves beside this, and a crate's edits begin once its library is there; otherwise it is made first. The last line is 'N passed, M failed'.
+With NAMEs only the edits of these crates are looked at: `rt must-fail NAME | tests/edits.py - NAME` tries them and looks. The last line is
+'N passed, M failed'.
 """
 
-import concurrent.futures
 import glob
 import os
 import re
-import shutil
-import subprocess
 import sys
-import tempfile
-import time
 
 TOP = os.path.dirname(os.path.dirname(os.path.abspath(__file__)))
-TARGET = os.path.join(TOP, "target")
-# It is there once the proofs have ended, whatever came of them.
-ENDED = os.path.join(TARGET, "ended")
+LOG = os.path.join(TOP, "target", "rt-ci.log")
 # There are at least so many edits.
 LEAST = 154
-SECONDS = 900
-WORKERS = os.cpu_count() or 1
+FUNCTION = re.compile(r'( *)(?:pub(?:\(\w+\))? )?(?:const )?(?:unsafe )?(?:extern "C" )?fn (\w+)')
+BLOCK = re.compile(r"impl(?:<[^{]*?>)? (?:(\w+)[^{]* for )?(\w+)")
 
 
 class Fault(Exception):
-    """Why an edit does not count as refused."""
+    """Why an edit does not count as refused at its place."""
+
+
+def text_of(path):
+    with open(path, encoding="utf-8") as file:
+        return file.read()
 
 
 def read_crates():
-    """Each crate with the crates of the repository that it stands on, near and far; those below stand first."""
-    near = {}
+    """The crates that crates.txt lists. A name may have a word of what it is built as behind it."""
     with open(os.path.join(TOP, "crates.txt"), encoding="utf-8") as file:
-        for line in file:
-            name, colon, rest = line.partition("#")[0].partition(":")
-            if colon:
-                near[name.strip()] = rest.split()
-    below = {}
-    while len(below) < len(near):
-        for name in near:
-            own = [other for other in near[name] if other in near]
-            if name not in below and all(other in below for other in own):
-                below[name] = set(own).union(*(below[other] for other in own))
-    return below
+        heads = [line.partition("#")[0].partition(":")[0].split() for line in file if ":" in line.partition("#")[0]]
+    return [head[0] for head in heads]
+
+
+def functions(text):
+    """The functions that stand in a file of the crate's layout: where each begins and ends, and its names, which have an impl's type in front, or type and trait."""
+    lines = text.splitlines()
+    fronts = [""]
+    for number, line in enumerate(lines, 1):
+        block = BLOCK.match(line)
+        if block:
+            fronts = [block[2] + "/"] + ([block[2] + block[1] + "/"] if block[1] else [])
+        elif line == "}":
+            fronts = [""]
+        found = FUNCTION.match(line)
+        if found:
+            begin = end = number
+            while begin > 1 and lines[begin - 2].lstrip().startswith("#["):
+                begin -= 1
+            while end < len(lines) and lines[end - 1] != found[1] + "}" and not (end == number and line.endswith("}")):
+                end += 1
+            yield begin, end, [front + found[2] for front in fronts]
+
+
+def module_of(file):
+    """What stands in front of the names of the functions of a file of src."""
+    path = os.path.splitext(file)[0]
+    return "" if path in ("lib", "main") else path + "/"
 
 
 class Edit:
-    def __init__(self, name, path):
-        self.name = name
+    def __init__(self, path):
         self.path = path
-        place, label = os.path.split(path.split("/must-fail/", 1)[1])
-        self.place = place
-        self.label = label[: -len(".edit")]
-        self.began = self.ended = 0
+        self.inside = os.path.relpath(path, os.path.join(TOP, "crates"))
+        self.name, _, rest = self.inside.partition("/must-fail/")
+        self.crate = os.path.join(TOP, "crates", self.name)
+        self.label = rest[: -len(".edit")] if rest.endswith(".edit") else rest
+        self.place = None
 
     def __str__(self):
         return "%s/%s" % (self.name, self.label)
 
-    def make(self, crate):
-        """Makes the change in a copy of the crate."""
-        path = old = None
-        changes = 0
-        with open(self.path, encoding="utf-8") as file:
-            lines = file.read().splitlines()
-        for line in lines:
+    def files(self):
+        """The texts of the files that it changes, with the changes made."""
+        texts, path, old, changes = {}, None, None, 0
+        for line in text_of(self.path).splitlines():
             word, _, text = line.partition(":")
             text = text[1:] if text.startswith(" ") else text
             if word == "file":
-                path = os.path.normpath(os.path.join(crate, text))
-                if not path.startswith(crate + os.sep) or not os.path.isfile(path):
+                path = text.strip()
+                if os.path.normpath(path) != path or not re.match("(src|specs|proofs)/", path) or not os.path.isfile(os.path.join(self.crate, path)):
                     raise Fault("BAD EDIT: the crate has no file %s" % text)
+                texts.setdefault(path, text_of(os.path.join(self.crate, path)))
             elif word == "old":
                 old = text
             elif word == "new":
-                before = ""
-                if path:
-                    with open(path, encoding="utf-8") as file:
-                        before = file.read()
-                if not old or before.count(old) != 1:
+                if not path or not old or texts[path].count(old) != 1:
                     raise Fault("BAD EDIT: what is to be changed does not stand there just once: %s" % old)
-                with open(path, "w", encoding="utf-8") as file:
-                    file.write(before.replace(old, text))
+                texts[path] = texts[path].replace(old, text)
                 old, changes = None, changes + 1
-        if not changes:
+        if not changes or all(text == text_of(os.path.join(self.crate, path)) for path, text in texts.items()):
             raise Fault("BAD EDIT: it changes nothing")
+        return texts
 
-    def refused(self, status, said):
-        """Holds what the prover said against the edit."""
-        if status == 0:
-            raise Fault("NOT REFUSED: the crate is proved with it")
-        if status != 1 or not re.search("^logic=not-proved", said, re.MULTILINE):
-            raise Fault("BAD EDIT: it did not reach the prover (exit %d):\n%s" % (status, said[:1000]))
-        misfit = re.search(r"error: .*has no `(Need-\S+)`", said)
-        if misfit:
-            raise Fault("BAD EDIT: it changes the code's shape, so that its proof does not fit: there is no %s" % misfit[1])
-        functions = re.findall(r"^fn \w+::(\S+): (?:not proved$|no proof:)", said, re.MULTILINE)
-        laws = re.findall(r"^\S*/crates/\w+/proofs/(\S+)\.antt:\d+:\d+: error: (?!.*was not admitted)", said, re.MULTILINE)
-        found = [function.replace("::", "/") for function in functions] + [law for law in laws if not law.endswith("/Proof")]
-        if self.place not in found:
-            raise Fault("REFUSED ELSEWHERE: not at %s, but at %s" % (self.place, " ".join(dict.fromkeys(found)) or "nothing of its own"))
-
-
-class Prover:
-    """Asks for a verdict on a crate, changed or not, in a repository of links with a copy of the crate."""
-
-    def __init__(self, crates):
-        self.crates = crates
-        # Where in its folder the prover keeps what it found out: seen at the first crate.
-        self.store = None
-
-    def ask(self, name, edit=None):
-        """The prover's exit status, and all it said."""
-        os.makedirs(os.path.join(TARGET, "edits", name), exist_ok=True)
-        with tempfile.TemporaryDirectory(dir=os.path.join(TARGET, "edits")) as top:
-            crate = os.path.join(top, "crates", name)
-            self.copy(name, top)
-            if edit:
-                edit.make(crate)
-            run = subprocess.run(
-                ["rt", "dev", name], cwd=top, timeout=SECONDS, stdout=subprocess.PIPE, stderr=subprocess.STDOUT, errors="replace", check=False
-            )
-            self.store = self.store or next(iter(os.listdir(os.path.join(top, "target", "inc", name))), None)
-        with open(os.path.join(TARGET, "edits", name, edit.label if edit else "no edit"), "w", encoding="utf-8") as log:
-            log.write(run.stdout)
-        return run.returncode, run.stdout
-
-    def copy(self, name, top):
-        crate = os.path.join(top, "crates", name)
-        found = os.path.join(top, "target", "inc", name)
-        os.makedirs(crate)
-        os.makedirs(found)
-        for part in ("src", "specs", "proofs"):
-            if os.path.isdir(os.path.join(TOP, "crates", name, part)):
-                shutil.copytree(os.path.join(TOP, "crates", name, part), os.path.join(crate, part))
-        for link in ["crates.txt", "target/rlib", "target/stamp"] + ["crates/" + other for other in self.crates if other != name]:
-            os.symlink(os.path.join(TOP, link), os.path.join(top, link))
-        library = os.path.join(TARGET, "rlib", name + ".rlib", "toolchain", "checked")
-        if self.store and os.path.isdir(library):
-            shutil.copytree(library, os.path.join(found, self.store))
-
-    def is_ready(self, name):
-        """All that the crate stands on is proved, and the crate itself if it is a library."""
-        own = set() if os.path.exists(os.path.join(TOP, "crates", name, "src", "main.rt")) else {name}
-        return all(os.path.exists(os.path.join(TARGET, "stamp", other)) for other in self.crates[name] | own)
-
-
-class Trials:
-    def __init__(self, prover, edits):
-        self.prover = prover
-        self.waiting = edits
-        self.passed = self.failed = 0
-        self.took = {}
-
-    def count(self, good, words):
-        self.passed += good
-        self.failed += not good
-        print(words, flush=True)
-
-    def control(self):
-        """One crate without an edit, the lowest that is ready: from nothing, and then over what was found out of it."""
-        while not (ready := [name for name in self.prover.crates if self.prover.is_ready(name)]):
-            if os.path.exists(ENDED):
+    def find_place(self):
+        """The place that its head names, which has to be there."""
+        head = []
+        for line in text_of(self.path).splitlines():
+            if not line.startswith("#"):
+                break
+            head.append(line)
+        found = re.findall(r"^# At (\S+)\.$", "\n".join(head), re.MULTILINE)
+        if len(found) != 1:
+            raise Fault("BAD EDIT: its head does not say by one line '# At PLACE.' where it has to be refused")
+        self.place = found[0]
+        if os.path.isfile(os.path.join(self.crate, "proofs", self.place + ".antt")):
+            return
+        for path in glob.glob(os.path.join(self.crate, "src", "**", "*.rt"), recursive=True):
+            module = module_of(os.path.relpath(path, os.path.join(self.crate, "src")))
+            if any(module + name == self.place for _, _, names in functions(text_of(path)) for name in names):
                 return
-            time.sleep(0.5)
-        for way in ("from nothing", "over what was found out of it"):
-            status, said = self.prover.ask(ready[0])
-            self.count(status == 0, "%s without an edit, %s: %s" % (ready[0], way, "proved" if status == 0 else "NOT PROVED:\n" + said[:1000]))
+        raise Fault("BAD EDIT: the crate has no function %s and no file proofs/%s.antt" % (self.place, self.place))
 
-    def one(self, edit):
-        """Why an edit does not count as refused, or nothing."""
-        edit.began = time.time()
-        try:
-            edit.refused(*self.prover.ask(edit.name, edit))
-            return None
-        except (Fault, OSError, subprocess.TimeoutExpired) as fault:
-            return fault
-        finally:
-            edit.ended = time.time()
+    def found_at(self, first, texts):
+        """The places at which something lies that failed, as the prover names it."""
+        at = re.match(r"(?:note: )?(?:\./)?(src|specs|proofs)/(\S+?)\.(?:rt|antt):(\d+):\d+: ", first)
+        if not at:
+            return []
+        part, path, line = at[1], at[2], int(at[3])
+        if part == "proofs":
+            # a law's file, or one of a function's folder
+            return [path, os.path.dirname(path)]
+        if part == "specs":
+            return []
+        file = "src/%s.rt" % path
+        text = texts.get(file) or text_of(os.path.join(self.crate, file))
+        return [module_of(path + ".rt") + name for begin, end, names in functions(text) if begin <= line <= end for name in names]
 
-    def end(self, edit, fault):
-        seconds = edit.ended - edit.began
-        self.count(not fault, "%s: %s (%d s)" % (edit, fault or "refused at " + edit.place, seconds))
-        count, sum_of_them = self.took.get(edit.name, (0, 0))
-        self.took[edit.name] = count + 1, sum_of_them + seconds
-
-    def all(self):
-        """Tries all edits, several at a time, each once its crate is ready."""
-        running = {}
-        with concurrent.futures.ThreadPoolExecutor(WORKERS) as pool:
-            while self.waiting or running:
-                over = os.path.exists(ENDED)
-                ready = [edit for edit in self.waiting if self.prover.is_ready(edit.name)]
-                for edit in ready[: WORKERS - len(running)]:
-                    self.waiting.remove(edit)
-                    running[pool.submit(self.one, edit)] = edit
-                for edit in list(self.waiting) if over else []:
-                    if edit not in ready:
-                        self.waiting.remove(edit)
-                        self.end(edit, "not tried: its crate, or what that stands on, is not proved")
-                for done in concurrent.futures.wait(running, timeout=0.5, return_when=concurrent.futures.FIRST_COMPLETED).done if running else []:
-                    self.end(running.pop(done), done.result())
-                if not running:
-                    time.sleep(0.5)
+    def refused(self, said):
+        """Holds what rt said of its tries against it."""
+        if not re.fullmatch(r"[^/]+/must-fail/[^/]+\.edit", self.inside):
+            raise Fault("BAD EDIT: an edit stands right in must-fail/, and its name ends in .edit")
+        texts = self.files()
+        self.find_place()
+        if len(said) != 1:
+            raise Fault("it was tried %d times, and not once: its crate, or what that stands on, is not proved" % len(said))
+        words = said[0]
+        good = re.match(r"refused, as it must be(?: \(only by a limit of [^:]*: [^)]*\))?: (.*)", words)
+        if not good:
+            raise Fault(words)
+        if self.place not in self.found_at(good[1], texts):
+            raise Fault("REFUSED ELSEWHERE: not at %s, but at %s" % (self.place, good[1]))
 
 
-def main():
-    names = [name for name in sys.argv[1:] if name != "--beside"]
-    beside = "--beside" in sys.argv[1:]
+def main(arguments):
+    log, names = arguments[0] if arguments else LOG, arguments[1:]
     crates = read_crates()
     unknown = [name for name in names if name not in crates]
     if unknown:
         sys.exit("crates.txt has no crate " + " ".join(unknown))
-    edits = []
-    for name in names or crates:
-        paths = glob.glob(os.path.join(TOP, "crates", name, "must-fail/**/*.edit"), recursive=True)
-        edits += [Edit(name, path) for path in sorted(paths)]
-    if not beside and subprocess.run(["rt", "check", *dict.fromkeys(edit.name for edit in edits)], cwd=TOP, check=False).returncode != 0:
-        sys.exit("not proved without any edit")
-    trials = Trials(Prover(crates), list(edits))
-    trials.control()
-    trials.all()
+    if log != "-" and not os.path.isfile(log):
+        print("there is no %s: .ci/proofs leaves it\n0 passed, 1 failed" % log)
+        sys.exit(1)
+    lines = sys.stdin.read().splitlines() if log == "-" else open(log, encoding="utf-8", errors="replace").read().splitlines()
+    said, kept = {}, 0
+    for line in lines:
+        told = re.match(r"rt: must-fail (\w+)/(\S+?)\.edit: (.*)", line)
+        if told:
+            said.setdefault((told[1], told[2]), []).append(told[3])
+        of_earlier = re.match(r"rt: (\w+): (\d+) of its \d+ must-fail edits were tried by an earlier run", line)
+        if of_earlier and (not names or of_earlier[1] in names):
+            kept += int(of_earlier[2])
+    paths = []
+    for name in names or sorted(os.listdir(os.path.join(TOP, "crates"))):
+        for folder, _, files in os.walk(os.path.join(TOP, "crates", name, "must-fail")):
+            paths += [os.path.join(folder, file) for file in files if not file.endswith(".md")]
+    passed = failed = by_limit = 0
+    edits = [Edit(path) for path in sorted(paths)]
+    for edit in edits:
+        tries = said.pop((edit.name, edit.label), [])
+        try:
+            edit.refused(tries)
+            by_limit += "only by a limit" in tries[0]
+            passed += 1
+            print("%s: refused at %s" % (edit, edit.place))
+        except Fault as fault:
+            failed += 1
+            print("%s: %s" % (edit, fault))
+    for name, label in said:
+        if not names or name in names:
+            failed += 1
+            print("%s/%s: rt tried it, and there is no such edit" % (name, label))
     least = 1 if names else LEAST
     if len(edits) < least:
-        trials.count(False, "%d edits; there must be at least %d" % (len(edits), least))
-    for name, (count, seconds) in sorted(trials.took.items(), key=lambda item: -item[1][1]):
-        print("took: %-16s %5d edits %5d s" % (name, count, seconds))
-    print("%d passed, %d failed" % (trials.passed, trials.failed))
-    sys.exit(trials.failed > 0 or trials.passed == 0)
+        failed += 1
+        print("%d edits; there must be at least %d" % (len(edits), least))
+    if by_limit:
+        print("by a limit of the prover alone: %d" % by_limit)
+    print("tried by an earlier run on this machine, and nothing changed since that they stand on: %d" % kept)
+    print("%d passed, %d failed" % (passed, failed))
+    sys.exit(failed > 0 or passed == 0)
 
 
 if __name__ == "__main__":
-    main()
+    main(sys.argv[1:])
