@@ -3,11 +3,11 @@ use Prim.Native.Nat.{ℕ, ◌<◌}
 use mathlib.Core.Path.{◌≡◌, refl, sym, ◌∙◌, ap, subst, subst₂}
 use mathlib.Core.Logic.{◌≢◌, inl, inr}
 use mathlib.Core.Bool.{Bool, true, false, not, cond}
-use mathlib.Core.List.{List}
+use mathlib.Core.List.{List, [], ◌∷◌}
 use lib.Dec.{T, eqb}
 use mir.Val.{has_key}
 use borrow.Author.Tests.{eq-eqb, ne_eqb}
-use types.Run.{OneOf}
+use borrow.Enum.Refused.{Among, opened}
 use denote.Enum.Declared.{tag_of}
 use Rattle.names.specs.declared.NodeId.{NodeId}
 use Rattle.names.specs.declared.Variable.{Variable}
@@ -62,7 +62,7 @@ use Rattle.rule.specs.Rule.{
   OccursTold,
   Decided,
 }
-use Rattle.side.proofs.Forms.{tag_kind, not_kind}
+use Rattle.side.proofs.Forms.{tag_kind, not_kind, compound}
 
 -- ---- what the code's tests tell
 
@@ -88,10 +88,14 @@ module _ (protected : ℕ → Bool) (x y : Variable) (i j : Bool) where
   pub either_left : x.0 ≢ y.0 → protected x.0 ≡ false → unless_inside j (BindLeft x) ≡ either_act protected x y i j
   either_left n p = rw (ne_eqb x.0 y.0 n, p)
 
+-- A form that is of no suspension's tag.
+pub compound_among : (w : Form) → Among (0 ∷ 1 ∷ 2 ∷ 3 ∷ 4 ∷ []) (tag_of the_type w) → Compound w
+compound_among w h = compound w (opened h)
+
 -- The left form's tag is k, and the right one's is another.
-pub clashing : (P Q : Table) (v w : Form) (k : ℕ) (others : List ℕ) → T (not (has_key others k)) → tag_of the_type v ≡ k → OneOf others (tag_of the_type w)
+pub clashing : (P Q : Table) (v w : Form) (k : ℕ) (others : List ℕ) → T (not (has_key others k)) → tag_of the_type v ≡ k → Among others (tag_of the_type w)
     → Compounds P Q v w Clash
-clashing P Q v w k others n e h = different (λ q. not_kind others k n w h (sym q ∙ sym (tag_kind v) ∙ e))
+clashing P Q v w k others n e h = different (λ q. not_kind others k n w (opened h) (sym q ∙ sym (tag_kind v) ∙ e))
 
 -- By which of the two sides is a suspension.
 module _ (A : ℕ) (protected : ℕ → Bool) (bound : ℕ) (made : List (List ℕ)) (variables_of_nodes : List ℕ) (l r : HeldSide) (act : Act) where

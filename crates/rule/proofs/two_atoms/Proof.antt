@@ -5,21 +5,21 @@ use borrow.Author.Rules.{rules}
 use Rattle.rule.proofs.two_atoms.Statement.{statement}
 use Rattle.rule.proofs.two_atoms.Tie as tie
 
-image_requires : tie.Need-image-requires
+image_requires : tie.Need-image-x-requires
 image_requires c κs = search rules
 
-image_requires_2 : tie.Need-image-requires-2
+image_requires_2 : tie.Need-image-y-requires
 image_requires_2 c κs = search rules
 
-returns : tie.Need-returns
+returns : tie.Need-returns-then-x-y
 returns c =
     let at_images = c.before.before.before in
-    cond_equal _ _ _ _ (sym at_images.before.image.ensures ∙ c.if1.true ∙ at_images.image2.ensures)
+    cond_equal _ _ _ _ (sym at_images.before.image-x.ensures ∙ c.if-x-y.true ∙ at_images.image-y.ensures)
 
-returns_2 : tie.Need-returns-2
+returns_2 : tie.Need-returns
 returns_2 c =
     let at_images = c.before.before.before in
-    cond_other _ _ _ _ (λ e. c.if1.false (at_images.before.image.ensures ∙ e ∙ sym at_images.image2.ensures))
+    cond_other _ _ _ _ (λ e. c.if-x-y.false (at_images.before.image-x.ensures ∙ e ∙ sym at_images.image-y.ensures))
 
 pub two_atoms_spec : {M : Type 1} → statement M
 two_atoms_spec = tie.close (tie.spec image_requires image_requires_2 returns returns_2)
