@@ -9,7 +9,7 @@ use lib.Dec.{leb, eqb}
 use borrow.Author.Tests.{leb-true, le-leb, lt-leb, eqb-true}
 use Rattle.field.specs.Field.{Field, cut, whole, front, byte, long, Bytes}
 use Rattle.field.proofs.Standing.{stands, bytes_body}
-use Rattle.problem.specs.Reader.{Reading, unreadable, base_tags, good_head, started, headed, head_field, read_all, reading}
+use Rattle.problem.specs.Reader.{unreadable, base_tags, good_head, started, headed, head_field, read_all, reading}
 use Rattle.problem.specs.Readable.{Readable}
 use Rattle.reader.specs.Told.{told}
 use Rattle.reader.specs.Tables.{ReaderTables, sets_cleared, head_noted, noted_all, left}

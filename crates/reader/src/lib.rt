@@ -22,6 +22,9 @@ use says::{Sizes, fault_of, field_says};
 use sets::VariableSet;
 use variables::NodeVariables;
 
+// The longest input that is read.
+const MOST_BYTES: usize = 65535;
+
 // "64 equations and 64 freshness fields".
 const MOST_EQUATIONS: u8 = 64;
 
@@ -225,7 +228,7 @@ pub fn read(
         (reader_tables places.old assumed.old node_variables.old) result
         (reader_tables places.new assumed.new node_variables.new) }
 {
-    if s.len() > 65535 {
+    if s.len() > MOST_BYTES {
         return Reading::Refused(give(TOO_LONG, 0));
     }
     let o = opened(s);

@@ -10,34 +10,34 @@ use Rattle.reader.proofs.freshness.Tie as tie
 key_requires : tie.Need-key-requires
 key_requires c κs = search rules
 
-returns : tie.Need-returns
-returns c = not_kept (rw (ne_eqb _ 0x210003 (λ q. c.if1.true (c.before.key.ensures ∙ q))))
+returns : tie.Need-returns-then-key-ne2162691
+returns c = not_kept (rw (ne_eqb _ 0x210003 (λ q. c.if-key-ne2162691.true (c.before.key.ensures ∙ q))))
 
-returns_2 : tie.Need-returns-2
-returns_2 c = not_kept (rw (le-ltb _ 64 c.if2.true, and-false))
+returns_2 : tie.Need-returns-then-c-ge-MOST_FRESHNESS
+returns_2 c = not_kept (rw (le-ltb _ 64 c.if-c-ge-MOST_FRESHNESS.true, and-false))
 
-first_byte_requires : tie.Need-first-byte-requires
+first_byte_requires : tie.Need-first_byte-requires
 first_byte_requires c κs = search rules
 
-returns_3 : tie.Need-returns-3
-returns_3 c = not_kept (rw (le-ltb _ _ (rw c.before.before.first_byte.ensures at c.if3.true), and-false, and-false))
+returns_3 : tie.Need-returns-then-first_byte-c
+returns_3 c = not_kept (rw (le-ltb _ _ (rw c.before.before.first_byte.ensures at c.if-first_byte-c.true), and-false, and-false))
 
-middle_two_requires : tie.Need-middle-two-requires
+middle_two_requires : tie.Need-middle_two-requires
 middle_two_requires c κs = search rules
 
-returns_4 : tie.Need-returns-4
-returns_4 c = not_kept (rw (le-ltb _ _ (rw c.before.before.middle_two.ensures at c.if4.true), and-false, and-false, and-false))
+returns_4 : tie.Need-returns-then-middle_two-c
+returns_4 c = not_kept (rw (le-ltb _ _ (rw c.before.before.middle_two.ensures at c.if-middle_two-c.true), and-false, and-false, and-false))
 
-cast_put : tie.Need-overflow-cast-put
+cast_put : tie.Need-overflow_cast-c
 cast_put c = search rules
 
-add_put : tie.Need-overflow-add-put
+add_put : tie.Need-overflow_add-c
 add_put c = search rules
 
 put_requires : tie.Need-put-requires
 put_requires c κs = search rules
 
-returns_5 : tie.Need-returns-5
+returns_5 : tie.Need-returns
 returns_5 c =
     let at_if4 = c.before.before.before in
     let at_if3 = at_if4.before.before.before in
@@ -45,10 +45,10 @@ returns_5 c =
     let at_if1 = at_if2.before.before in
     is_kept
     (rw (
-      eq-eqb _ 0x210003 (sym at_if1.before.key.ensures ∙ at_if1.if1.false),
-      lt-ltb _ 64 at_if2.if2.false,
-      lt-ltb _ _ (rw at_if3.before.before.first_byte.ensures at at_if3.if3.false),
-      lt-ltb _ _ (rw at_if4.before.before.middle_two.ensures at at_if4.if4.false),
+      eq-eqb _ 0x210003 (sym at_if1.before.key.ensures ∙ at_if1.if-key-ne2162691.false),
+      lt-ltb _ 64 at_if2.if-c-ge-MOST_FRESHNESS.false,
+      lt-ltb _ _ (rw at_if3.before.before.first_byte.ensures at at_if3.if-first_byte-c.false),
+      lt-ltb _ _ (rw at_if4.before.before.middle_two.ensures at at_if4.if-middle_two-c.false),
     ))
     (search rules) c.put.ensures
 

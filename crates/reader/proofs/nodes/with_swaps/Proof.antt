@@ -13,103 +13,103 @@ use Rattle.reader.proofs.nodes.with_swaps.Statement.{statement}
 use Rattle.reader.proofs.nodes.with_swaps.Tie as tie
 
 -- The field is whole, and its swaps are those bytes of the input that are looked at.
-ends_inside : (c : tie.Else3)
+ends_inside : (c : tie.Else-s-at)
     → let a = c.before.before.before.before.before.args in
-    leb (3 + c.before.before.before.length.result) (length (drop a.at a.s.now)) ≡ true
+    leb (3 + c.before.before.before.length-n.result) (length (drop a.at a.s.now)) ≡ true
 ends_inside c =
     let a = c.before.before.before.before.before.args in
-    le-leb (3 + c.before.before.before.length.result) (length (drop a.at a.s.now)) (omega (arith, length-drop a.at a.s.now))
+    le-leb (3 + c.before.before.before.length-n.result) (length (drop a.at a.s.now)) (omega (arith, length-drop a.at a.s.now))
 
-swaps_looked : (c : tie.After-all-below)
+swaps_looked : (c : tie.After-all_below)
     → let at_length = c.before.before.before.before.before in
     let a = at_length.before.before.args in
-    c.all_below.result ≡ below a.atoms (take (at_length.length.result - 1) (drop 4 (drop a.at a.s.now)))
+    c.all_below.result ≡ below a.atoms (take (at_length.length-n.result - 1) (drop 4 (drop a.at a.s.now)))
 swaps_looked c =
     let at_length = c.before.before.before.before.before in
     let a = at_length.before.before.args in
-    let n = at_length.length.result in
+    let n = at_length.length-n.result in
     let e : a.at + 3 + n - (a.at + 4) ≡ n - 1 = omega arith in
     c.all_below.ensures ∙ rw (e, drop-drop 4 a.at a.s.now)
 
-length_requires : tie.Need-length-requires
+length_requires : tie.Need-length-n-requires
 length_requires c κs = search rules
 
-returns : tie.Need-returns
-returns c = rw (← c.before.length.ensures.0, ne_eqb _ 1 c.if1.true)
+returns : tie.Need-returns-then-n-ne1
+returns c = rw (← c.before.length-n.ensures.0, ne_eqb _ 1 c.if-n-ne1.true)
 
-returns_2 : tie.Need-returns-2
+returns_2 : tie.Need-returns-then-n-gt65
 returns_2 c =
-    let n = c.before.before.length.result in
-    rw (← c.before.before.length.ensures.0, lt-leb n 65 c.if2.true, and-false)
+    let n = c.before.before.length-n.result in
+    rw (← c.before.before.length-n.ensures.0, lt-leb n 65 c.if-n-gt65.true, and-false)
 
-sub_if3 : tie.Need-overflow-sub-if3
+sub_if3 : tie.Need-overflow_sub-s
 sub_if3 c = search rules
 
-add_if3 : tie.Need-overflow-add-if3
+add_if3 : tie.Need-overflow_add-n
 add_if3 c = search rules
 
-returns_3 : tie.Need-returns-3
+returns_3 : tie.Need-returns-then-s-at
 returns_3 c =
     let at_length = c.before.before.before in
     let a = at_length.before.before.args in
     let l = length-drop a.at a.s.now in
     rw (
-      ← at_length.length.ensures.0,
-      lt-leb (3 + at_length.length.result) (length (drop a.at a.s.now)) (omega arith),
+      ← at_length.length-n.ensures.0,
+      lt-leb (3 + at_length.length-n.result) (length (drop a.at a.s.now)) (omega arith),
       and-false,
       and-false,
     )
 
-add_all_below : tie.Need-overflow-add-all-below
+add_all_below : tie.Need-overflow_add-at
 add_all_below c = search rules
 
-add_all_below_2 : tie.Need-overflow-add-all-below-2
+add_all_below_2 : tie.Need-overflow_add-at-2
 add_all_below_2 c = search rules
 
-add_all_below_3 : tie.Need-overflow-add-all-below-3
+add_all_below_3 : tie.Need-overflow_add-at-3
 add_all_below_3 c = search rules
 
-sub_all_below : tie.Need-overflow-sub-all-below
+sub_all_below : tie.Need-slice_bounds-all_below-count
 sub_all_below c = search rules
 
-part_all_below_start : tie.Need-slice-bounds-all-below-start
+part_all_below_start : tie.Need-slice_bounds-all_below-start
 part_all_below_start c = search rules
 
-part_all_below_end : tie.Need-slice-bounds-all-below-end
+part_all_below_end : tie.Need-slice_bounds-all_below-end
 part_all_below_end c = search rules
 
-all_below_requires : tie.Need-all-below-requires
+all_below_requires : tie.Need-all_below-requires
 all_below_requires c κs = search rules
 
-add_result : tie.Need-overflow-add-result
+add_result : tie.Need-overflow_add-result
 add_result c = search rules
 
-returns_4 : tie.Need-returns-4
+returns_4 : tie.Need-returns-then-all_below
 returns_4 c =
     let at_if3 = c.before.before.before in
     let at_length = at_if3.before.before.before in
-    let n = at_length.length.result in
+    let n = at_length.length-n.result in
     rw (
-      ← at_length.length.ensures.0,
-      eq-eqb _ 1 at_if3.before.before.if1.false,
-      le-leb n 65 at_if3.before.if2.false,
+      ← at_length.length-n.ensures.0,
+      eq-eqb _ 1 at_if3.before.before.if-n-ne1.false,
+      le-leb n 65 at_if3.before.if-n-gt65.false,
       ends_inside at_if3,
       ← swaps_looked c.before,
-      c.if4.true,
+      c.if-all_below.true,
     )
 
-returns_5 : tie.Need-returns-5
+returns_5 : tie.Need-returns
 returns_5 c =
     let at_if3 = c.before.before.before in
     let at_length = at_if3.before.before.before in
-    let n = at_length.length.result in
+    let n = at_length.length-n.result in
     rw (
-      ← at_length.length.ensures.0,
-      eq-eqb _ 1 at_if3.before.before.if1.false,
-      le-leb n 65 at_if3.before.if2.false,
+      ← at_length.length-n.ensures.0,
+      eq-eqb _ 1 at_if3.before.before.if-n-ne1.false,
+      le-leb n 65 at_if3.before.if-n-gt65.false,
       ends_inside at_if3,
       ← swaps_looked c.before,
-      c.if4.false,
+      c.if-all_below.false,
     )
 
 pub with_swaps_spec : {M : Type 1} → statement M
