@@ -53,6 +53,7 @@ module _ (nodes : List Node) where
   -- A list of demands, each asked as the pair that a function gives.
   module _ {A : Type 0} (demand : A → Asked) (pair : A → Pair) where
     mem_mapped : (x : A) (l : List A) → Memᴰ x l → Memᴰ (demand x) (map demand l)
+    mem_mapped x [] i = elim i [ ]
     mem_mapped x (y ∷ l) (Memᴰ.head e) = Memᴰ.head (ap demand e)
     mem_mapped x (y ∷ l) (Memᴰ.tail i) = Memᴰ.tail (mem_mapped x l i)
 

@@ -53,8 +53,8 @@ module _ (p : Problem) (nodes₀ variables₀ : List ℕ) where
       → Beginning i seen variables → Visited p.nodes atoms i (Marked p seen variables) (Marked p seen' variables')
       → Beginning (i + 1) seen' variables'
   beginning_more i {seen} {variables} {seen'} {variables'} atoms few is_atoms b v = record {
-    of_variables = λ a X h. kept (of_variable a X) (b.of-variables a X h);
-    of_nodes = λ a n l h. by_eq n i (λ q. rw q (v.here a (rw (is_atoms, ← q) h.1))) (λ d. kept (of_node a n) (b.of-nodes a n (omega arith) h));
+    of_variables = λ a X h. kept (of_variable a X) (b.of_variables a X h);
+    of_nodes = λ a n l h. by_eq n i (λ q. rw q (v.here a (rw (is_atoms, ← q) h.1))) (λ d. kept (of_node a n) (b.of_nodes a n (omega arith) h));
     from = λ value w h. ⊎_elim (λ k. b.from value w k) (λ k. reached_through (wanted value) k.0) ((v.grown value).new w h);
     looked = λ value w h. ⊎_elim (λ k. looked_more p.nodes value kept w (b.looked value w k)) (λ k. k.1) ((v.grown value).new w h);
   }
@@ -70,8 +70,8 @@ module _ (p : Problem) (nodes₀ variables₀ : List ℕ) where
   beginning_further : (i j : ℕ) {seen variables : List ℕ} → ((a n : ℕ) → n < j → Wanted (of_node a n) → n < i) → Beginning i seen variables
       → Beginning j seen variables
   beginning_further i j below b = record {
-    of_variables = b.of-variables;
-    of_nodes = λ a n l h. b.of-nodes a n (below a n l h) h;
+    of_variables = b.of_variables;
+    of_nodes = λ a n l h. b.of_nodes a n (below a n l h) h;
     from = b.from;
     looked = b.looked;
   }
@@ -88,8 +88,8 @@ module _ (p : Problem) (nodes₀ variables₀ : List ℕ) where
   beginning_end {seen} {variables} b = record { has = has; from = b.from; looked = b.looked }
     where
       has : (w : Pair) → Wanted w → Marked p seen variables w
-      has (of_node a n) h = b.of-nodes a n h.0 h
-      has (of_variable a X) h = b.of-variables a X h
+      has (of_node a n) h = b.of_nodes a n h.0 h
+      has (of_variable a X) h = b.of_variables a X h
 
   -- Where nothing is demanded of a node, nothing is to be visited.
   pub begun_none : ((i : ℕ) → i < length p.nodes → (a : ℕ) → member (get_or nodes₀ i 0) a ≡ false)

@@ -168,13 +168,13 @@ asked_there (nodes ∷ variables ∷ rest) done X h = omega arith
 
 -- The done column is written first, and then a visit of the value's node changes the others.
 module _ {p : Problem} {made values : List (List ℕ)} {X : ℕ} {asked marks : List (List ℕ)} (two_marks : length marks ≡ 2) where
-  pub passed_on : {new : ℕ} {done seen variables : List ℕ} → X < length (done_in marks) → get_or (done_in marks) X 0 < 2 ^ 32 → new < 2 ^ 32
+  pub passed_on : {new : ℕ} {done : List ℕ} (seen variables : List ℕ) → X < length (done_in marks) → get_or (done_in marks) X 0 < 2 ^ 32 → new < 2 ^ 32
       → 0 < new_at (asked_of_variables asked) (done_in marks) X → new ≡ new_at (asked_of_variables asked) (done_in marks) X → done ≡ added (done_in marks) X new
       → Visited p.nodes (sent_into p.atoms (image (images_of p.atoms values X)) new) (node_of made X)
       (Marked p (get_or (set marks 1 done) 0 []) (asked_of_variables asked)) (Marked p seen variables)
       → Passed p made values X asked marks (set asked 1 variables) (set (set marks 1 done) 0 seen)
   unfolding new_at
-  passed_on {new} {done} {seen} {variables} there word small positive is_new is_done v = record {
+  passed_on {new} {done} seen variables there word small positive is_new is_done v = record {
     there = there;
     recorded = done_written ∙ is_done ∙ ap (added (done_in marks) X) is_new;
     more = rw (done_now, is_new) (union_more (get_or (done_in marks) X 0) (get_or (asked_of_variables asked) X 0) word (rw is_new at small) positive);

@@ -17,13 +17,13 @@ use Rattle.fresh.proofs.Waiting.{lack, passed_less}
 use Rattle.fresh.proofs.close.Statement.{statement}
 use Rattle.fresh.proofs.close.Tie as tie
 
-abbrev invariant_loop : tie.invariant-loop
+abbrev invariant_loop : tie.invariant-loop-bound
 invariant_loop s places bound made values asked₀ marks₀ atoms variables end x₀ up₀ asked marks x up =
     (x.0 ≤ variables) × (asked_of_nodes asked ≡ asked_of_nodes asked₀)
     × Closing (problem_of s) (value_at (problem_of s).atoms bound.0 made values)
     (SoFar (problem_of s) asked₀ marks₀) (SoFar (problem_of s) asked marks) (done_in marks)
 
-abbrev decreases_loop : tie.decreases-loop
+abbrev decreases_loop : tie.decreases-loop-bound
 decreases_loop s places bound made values asked₀ marks₀ atoms variables end x₀ up₀ asked marks x up = lack variables (done_in marks)
 
 -- ---- at the start
@@ -55,60 +55,60 @@ module _ (c : tie.Start invariant_loop decreases_loop) where
 
 -- ---- where the next variable was found
 
-module _ (c : tie.Else1 invariant_loop decreases_loop) where
-  abbrev found : tie.After-next invariant_loop decreases_loop
+module _ (c : tie.Else-y-end invariant_loop decreases_loop) where
+  abbrev found : tie.After-next-y invariant_loop decreases_loop
   found = c.before.before.before
 
-  abbrev turn : tie.At-loop invariant_loop decreases_loop
-  turn = found.before.before.before
+  abbrev turn : tie.At-loop-bound invariant_loop decreases_loop
+  turn = found.before
 
   abbrev start : tie.Start invariant_loop decreases_loop
   start = turn.before.before
 
   abbrev X : ℕ
-  X = found.next.result.0
+  X = found.next-y.result.0
 
   here : X < start.args.variables
-  here = omega (arith, found.next.ensures.most, c.if1.false)
+  here = omega (arith, found.next-y.ensures.most, c.if-y-end.false)
 
   few : X < (problem start).variables
   few = omega (arith, here, all_variables start)
 
-  waits : (member start.args.bound.0 X ≡ true) × (0 < new_at (asked_of_variables turn.loop.asked) (done_in turn.loop.marks) X)
-  waits = found.next.ensures.found here
+  waits : (member start.args.bound.0 X ≡ true) × (0 < new_at (asked_of_variables turn.loop-bound.asked) (done_in turn.loop-bound.marks) X)
+  waits = found.next-y.ensures.found here
 
 -- ---- what is to be shown, in the code's order
 
-cast_t14 : tie.Need-overflow-cast-t14 invariant_loop decreases_loop
+cast_t14 : tie.Need-overflow_cast-end invariant_loop decreases_loop
 cast_t14 c = omega (arith, few_variables c.before)
 
-loop_holds : tie.Need-loop-init invariant_loop decreases_loop
+loop_holds : tie.Need-loop-bound-init invariant_loop decreases_loop
 loop_holds c =
     let start = c.before in
     let looked = start.requires.1.1.1.0 in
     (omega arith, refl, closing_start (bound_values start) (stands start).readable.named_nodes (done_in start.args.marks.now) looked (none_done start))
 
-next_requires : tie.Need-next-requires invariant_loop decreases_loop
+next_requires : tie.Need-next-y-requires invariant_loop decreases_loop
 next_requires c κs =
-    let turn = c.before.before in
-    (turn.loop.invariant.0, omega (arith, few_variables turn.before.before))
+    let turn = c in
+    (turn.loop-bound.invariant.0, omega (arith, few_variables turn.before.before))
 
-pass_on_requires : tie.Need-pass-on-requires invariant_loop decreases_loop
+pass_on_requires : tie.Need-pass_on-requires invariant_loop decreases_loop
 pass_on_requires c κs =
     let one = c.before.before.before.before in
     let begun = start one in
     let there = (bound_values begun).nodes (X one) (waits one).0 in
-    let settled = looked_settled (turn one).loop.invariant.2.looked in
+    let settled = looked_settled (turn one).loop-bound.invariant.2.looked in
     ((stands begun, all_atoms begun), ((omega (arith, here one, few_variables begun), there), ((waits one).1, settled)))
 
-loop_less : tie.Need-loop-smaller invariant_loop decreases_loop
+loop_less : tie.Need-loop-bound-smaller invariant_loop decreases_loop
 loop_less c = passed_less _ (here c.before.before.before.before.before) c.pass_on.ensures
 
-loop_again : tie.Need-loop-preserved invariant_loop decreases_loop
+loop_again : tie.Need-loop-bound-preserved invariant_loop decreases_loop
 loop_again c =
     let one = c.before.before.before.before.before in
     let begun = start one in
-    let inv = (turn one).loop.invariant in (
+    let inv = (turn one).loop-bound.invariant in (
       omega (arith, here one),
       c.pass_on.ensures.kept ∙ inv.1,
       closing_turn (bound_values begun) (stands begun).readable.named_nodes (small begun) inv.2 (X one) (few one) (waits one).0 c.pass_on.ensures,
@@ -117,12 +117,12 @@ loop_again c =
 returns : tie.Need-returns invariant_loop decreases_loop
 returns c =
     let found = c.before.before.before in
-    let turn = found.before.before.before in
+    let turn = found.before in
     let start = turn.before.before in
-    let none_waits = found.next.ensures.none c.if1.true in (
-      closing_end (bound_values start) (stands start).readable.named_nodes turn.loop.asked turn.loop.marks turn.loop.invariant.2
+    let none_waits = found.next-y.ensures.none c.if-y-end.true in (
+      closing_end (bound_values start) (stands start).readable.named_nodes turn.loop-bound.asked turn.loop-bound.marks turn.loop-bound.invariant.2
           (λ Y l. none_waits Y (omega (arith, all_variables start))),
-      turn.loop.invariant.1,
+      turn.loop-bound.invariant.1,
     )
 
 pub close_spec : {M : Type 1} → statement M

@@ -5,33 +5,33 @@ use Rattle.fresh.proofs.Waiting.{next_above, next_below}
 use Rattle.fresh.proofs.next.Statement.{statement}
 use Rattle.fresh.proofs.next.Tie as tie
 
-next_between_requires : tie.Need-next-between-requires
+next_between_requires : tie.Need-next_between-x-requires
 next_between_requires c κs = search rules
 
-returns : tie.Need-returns
+returns : tie.Need-returns-then-x-end
 returns c = search rules
 
-last_below_requires : tie.Need-last-below-requires
+last_below_requires : tie.Need-last_below-requires
 last_below_requires c κs = search rules
 
-returns_2 : tie.Need-returns-2
+returns_2 : tie.Need-returns-then-up
 returns_2 c =
     let found = c.before.before.before.before in
-    next_below found.next_between.ensures (omega (arith, c.before.if2.false)) c.last_below.ensures
+    next_below found.next_between-x.ensures (omega (arith, c.before.if-x-end.false)) c.last_below.ensures
 
-last_below_requires_2 : tie.Need-last-below-requires-2
+last_below_requires_2 : tie.Need-last_below-y-requires
 last_below_requires_2 c κs = search rules
 
-returns_3 : tie.Need-returns-3
+returns_3 : tie.Need-returns-then-y-end
 returns_3 c = search rules
 
-next_between_requires_2 : tie.Need-next-between-requires-2
+next_between_requires_2 : tie.Need-next_between-requires
 next_between_requires_2 c κs = search rules
 
-returns_4 : tie.Need-returns-4
+returns_4 : tie.Need-returns
 returns_4 c =
     let found = c.before.before.before.before in
-    next_above found.last-below2.ensures (omega (arith, c.before.if3.false)) c.next-between2.ensures
+    next_above found.last_below-y.ensures (omega (arith, c.before.if-y-end.false)) c.next_between.ensures
 
 pub next_spec : {M : Type 1} → statement M
 next_spec =

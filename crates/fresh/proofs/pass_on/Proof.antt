@@ -19,9 +19,9 @@ use Rattle.fresh.proofs.pass_on.Tie as tie
 
 -- ---- where the new atoms were found
 
-module _ (c : tie.After-new-at) where
+module _ (c : tie.After-new_at-new) where
   abbrev start : tie.Start
-  start = c.before.before.before.before.before
+  start = c.before.before.before.before
 
   abbrev problem : Problem
   problem = problem_of start.args.s.now
@@ -36,80 +36,80 @@ module _ (c : tie.After-new-at) where
   X = start.args.x.0
 
   abbrev new : ℕ
-  new = c.new_at.result.0
+  new = c.new_at-new.result.0
 
   two_marks : length marks ≡ 2
-  two_marks = c.before.new-at-arg3.given.0
+  two_marks = c.before.new_at-arg-2-1.given
 
   is_new : new ≡ new_at (asked_of_variables asked) (done_in marks) X
-  is_new = c.new_at.ensures.0
+  is_new = c.new_at-new.ensures.0
 
   new_word : new < 2 ^ 32
-  new_word = omega (arith, c.new_at.type-inv)
+  new_word = omega (arith, c.new_at-new.type_inv)
 
   done_word : get_or (done_in marks) X 0 < 2 ^ 32
-  done_word = c.new_at.ensures.1
+  done_word = c.new_at-new.ensures.1
 
 -- ---- where the value's node was found
 
-module _ (c : tie.After-node-of) where
-  abbrev recorded : tie.After-add-atoms
+module _ (c : tie.After-node_of-node) where
+  abbrev recorded : tie.After-add_atoms
   recorded = c.before.before
 
-  abbrev found : tie.After-new-at
+  abbrev found : tie.After-new_at-new
   found = recorded.before.before.before
 
   in_done : X found < length (done_in (marks found))
-  in_done = omega (arith, (start found).pre.1.0.0, recorded.before.before.add-atoms-arg.given)
+  in_done = omega (arith, (start found).requires.1.0.0, recorded.before.before.add_atoms-arg-1.given)
 
-  is_done : recorded.add_atoms.last.0 ≡ added (done_in (marks found)) (X found) (new found)
+  is_done : recorded.add_atoms.new.rows ≡ added (done_in (marks found)) (X found) (new found)
   is_done = recorded.add_atoms.ensures
 
-  is_sent : c.before.through_images.result.0
+  is_sent : c.before.through_images-sent.result.0
       ≡ sent_into (problem found).atoms (image (images_of (problem found).atoms (start found).args.values.now (X found))) (new found)
-  is_sent = rw (start found).pre.0.1 at c.before.through_images.ensures
+  is_sent = rw (start found).requires.0.1 at c.before.through_images-sent.ensures
 
-  is_node : c.node_of.result.0 ≡ node_of (start found).args.made.now (X found)
-  is_node = c.node_of.ensures
+  is_node : c.node_of-node.result.0 ≡ node_of (start found).args.made.now (X found)
+  is_node = c.node_of-node.ensures
 
 -- ---- what is to be shown, in the code's order
 
-new_at_requires : tie.Need-new-at-requires
+new_at_requires : tie.Need-new_at-new-requires
 new_at_requires c κs = search rules
 
-index_1_add_atoms : tie.Need-bounds-1-add-atoms
+index_1_add_atoms : tie.Need-bounds-marks-1
 index_1_add_atoms c = search rules
 
-cast_add_atoms : tie.Need-overflow-cast-add-atoms
+cast_add_atoms : tie.Need-overflow_cast-x
 cast_add_atoms c = search rules
 
-add_atoms_requires : tie.Need-add-atoms-requires
+add_atoms_requires : tie.Need-add_atoms-requires
 add_atoms_requires c κs = search rules
 
-through_images_requires : tie.Need-through-images-requires
+through_images_requires : tie.Need-through_images-sent-requires
 through_images_requires c κs = search rules
 
-node_of_requires : tie.Need-node-of-requires
+node_of_requires : tie.Need-node_of-node-requires
 node_of_requires c κs = search rules
 
-index_1_visit : tie.Need-bounds-1-visit
+index_1_visit : tie.Need-bounds-marks-0
 index_1_visit c = search rules
 
-index_1_visit_2 : tie.Need-bounds-1-visit-2
+index_1_visit_2 : tie.Need-bounds-asked-1
 index_1_visit_2 c = search rules
 
 visit_requires : tie.Need-visit-requires
 visit_requires c κs =
     let here = c.before.before in
-    let pre = (start (found here)).pre in
-    let seen_kept = get_or-set_other (marks (found here)) 1 0 (recorded here).add_atoms.new.0 [] (λ q. omega arith) in
+    let pre = (start (found here)).requires in
+    let seen_kept = get_or-set_other (marks (found here)) 1 0 (recorded here).add_atoms.new.rows [] (λ q. omega arith) in
     ((pre.0.0, rw (is_node here) pre.1.0.1), rw seen_kept pre.1.1.1)
 
 returns : tie.Need-returns
 returns c =
     let here = c.before.before.before in
-    let waits = (start (found here)).pre.1.1.0 in
-    passed_on (two_marks (found here)) (in_done here) (done_word (found here)) (new_word (found here)) waits
+    let waits = (start (found here)).requires.1.1.0 in
+    passed_on (two_marks (found here)) _ _ (in_done here) (done_word (found here)) (new_word (found here)) waits
     (is_new (found here)) (is_done here) (rw (← is_sent here, ← is_node here) c.visit.ensures)
 
 pub pass_on_spec : {M : Type 1} → statement M

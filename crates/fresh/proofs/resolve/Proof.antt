@@ -39,7 +39,7 @@ module _ (c : tie.Start) where
 -- ---- where the demands were visited
 
 module _ (c : tie.After-begin) where
-  abbrev cleared : tie.After-clear-marks
+  abbrev cleared : tie.After-clear_marks
   cleared = c.before.before.before
 
   abbrev start : tie.Start
@@ -47,20 +47,20 @@ module _ (c : tie.After-begin) where
 
   -- The tables now: the column of what was seen is written over the cleared marks.
   abbrev asked : List (List ℕ)
-  asked = c.begin.new.1.1.0
+  asked = c.begin.new.asked
 
   abbrev seen : List ℕ
-  seen = c.begin.new.1.1.1.0
+  seen = c.begin.new.seen
 
   abbrev marks : List (List ℕ)
-  marks = set cleared.clear_marks.last.0 0 seen
+  marks = set cleared.clear_marks.new.marks 0 seen
 
   seen_written : seen_in marks ≡ seen
-  seen_written = get_or-set_same cleared.clear_marks.last.0 0 seen [] (omega arith)
+  seen_written = get_or-set_same cleared.clear_marks.new.marks 0 seen [] (omega arith)
 
   none_done : (i : ℕ) → i < start.args.variables → get_or (done_in marks) i 0 ≡ 0
   none_done i l =
-      let kept = get_or-set_other cleared.clear_marks.last.0 0 1 seen [] (λ q. omega arith) in
+      let kept = get_or-set_other cleared.clear_marks.new.marks 0 1 seen [] (λ q. omega arith) in
       rw kept (cleared.clear_marks.ensures.1 i l)
 
   begun : Begun (problem start).nodes (Demanded (problem start) start.args.asked.now) (SoFar (problem start) asked marks)
@@ -72,10 +72,10 @@ module _ (c : tie.After-begin) where
 
 -- ---- what is to be shown, in the code's order
 
-clear_marks_requires : tie.Need-clear-marks-requires
+clear_marks_requires : tie.Need-clear_marks-requires
 clear_marks_requires c κs = search rules
 
-index_1_begin : tie.Need-bounds-1-begin
+index_1_begin : tie.Need-bounds-marks-0
 index_1_begin c = search rules
 
 begin_requires : tie.Need-begin-requires
@@ -89,7 +89,7 @@ close_requires c κs =
       ((sizes.1, sizes.2), (none_done visited, ((begun visited).looked (value (start visited)), reached visited))),
     )
 
-index_1_clashing : tie.Need-bounds-1-clashing
+index_1_clashing : tie.Need-bounds-marks-0-2
 index_1_clashing c = search rules
 
 clashing_requires : tie.Need-clashing-requires

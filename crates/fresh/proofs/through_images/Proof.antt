@@ -3,7 +3,6 @@ use Prim.Native.Nat.{ℕ, ◌-◌, ◌≤◌}
 use native.Mathlib.Omega.{arith}
 use borrow.Author.Rules.{rules}
 use mathlib.Core.Path.{◌≡◌, sym, ◌∙◌, ap}
-use mathlib.Core.Logic.{⊎_elim}
 use mathlib.Core.Bool.{Bool}
 use Rattle.sets.specs.Bits.{member, inserted}
 use Rattle.sets.specs.declared.AtomSet.{AtomSet}
@@ -13,11 +12,12 @@ use Rattle.visit.specs.Visited.{sent_into}
 use Rattle.fresh.proofs.Images.{sent_none, sent_with, sent_without}
 use Rattle.fresh.proofs.through_images.Statement.{statement}
 use Rattle.fresh.proofs.through_images.Tie as tie
+use Rattle.fresh.proofs.through_images.Lts.{then-has, else-has}
 
-abbrev invariant_loop : tie.invariant-loop
+abbrev invariant_loop : tie.invariant-loop-i
 invariant_loop values n x atoms r₀ i₀ r i = (i ≤ n) × (r.0 ≡ sent_into i (image (images_of n values x.0)) atoms.0)
 
-abbrev decreases_loop : tie.decreases-loop
+abbrev decreases_loop : tie.decreases-loop-i
 decreases_loop values n x atoms r₀ i₀ r i = n - i
 
 -- ---- where the atom's image was looked for in the set
@@ -33,61 +33,60 @@ module _ (c : tie.After-has invariant_loop decreases_loop) where
   abbrev sends : ℕ → ℕ
   sends = image (images_of start.args.n start.args.values.now start.args.x.0)
 
-  abbrev turn : tie.At-loop invariant_loop decreases_loop
+  abbrev turn : tie.At-loop-i invariant_loop decreases_loop
   turn = c.before.before.before
 
   abbrev i : ℕ
-  i = turn.loop.i
+  i = turn.loop-i.i
 
   -- The test was whether the atom's image is in the set.
   tested : {t : Bool} → c.has.result ≡ t → member atoms (sends i) ≡ t
-  tested q = ap (member atoms) (sym c.before.image_of.ensures) ∙ sym c.has.ensures ∙ q
+  tested q = ap (member atoms) (sym c.before.image_of-b.ensures) ∙ sym c.has.ensures ∙ q
 
 -- ---- what is to be shown, in the code's order
 
-empty_requires : tie.Need-empty-requires invariant_loop decreases_loop
+empty_requires : tie.Need-empty-r-requires invariant_loop decreases_loop
 empty_requires c κs = search rules
 
-loop_holds : tie.Need-loop-init invariant_loop decreases_loop
-loop_holds c = (omega arith, c.empty.ensures ∙ sent_none _ _)
+loop_holds : tie.Need-loop-i-init invariant_loop decreases_loop
+loop_holds c = (omega arith, c.empty-r.ensures ∙ sent_none _ _)
 
-cast_t10 : tie.Need-overflow-cast-t10 invariant_loop decreases_loop
+cast_t10 : tie.Need-overflow_cast-a invariant_loop decreases_loop
 cast_t10 c = search rules
 
-image_of_requires : tie.Need-image-of-requires invariant_loop decreases_loop
+image_of_requires : tie.Need-image_of-b-requires invariant_loop decreases_loop
 image_of_requires c κs = search rules
 
 has_requires : tie.Need-has-requires invariant_loop decreases_loop
 has_requires c κs = search rules
 
-with_requires : tie.Need-with-requires invariant_loop decreases_loop
+with_requires : tie.Need-with-r-requires invariant_loop decreases_loop
 with_requires c κs = search rules
 
-add_i : tie.Need-overflow-add-i invariant_loop decreases_loop
+add_i : tie.Need-overflow_add-i invariant_loop decreases_loop
 add_i c = search rules
 
-loop_less : tie.Need-loop-smaller invariant_loop decreases_loop
+loop_less : tie.Need-loop-i-smaller invariant_loop decreases_loop
 loop_less c = search rules
 
-loop_again : tie.Need-loop-preserved invariant_loop decreases_loop
+loop_again : tie.Need-loop-i-preserved invariant_loop decreases_loop
 loop_again c =
     let test = c.before in
-    let before = (turn test).loop.invariant.1 in
+    let before = (turn test).loop-i.invariant.1 in
     let few = (start test).requires.0 in (
       search rules,
-      ⊎_elim
-          (λ w.
-          ap (λ (s : AtomSet). s.0) w.2 ∙ w.1.ensures ∙ ap (λ (k : ℕ). inserted 32 k (i test)) before
-          ∙ sent_with (i test) (sends test) (atoms test) (omega arith) (tested test w.0.taken))
-          (λ w. ap (λ (s : AtomSet). s.0) w.1 ∙ before ∙ sent_without (i test) (sends test) (atoms test) (tested test w.0.left))
-          c.if1.branch,
+      elim c.if-has.branch [
+        | then-has w ↦ ap (λ (s : AtomSet). s.0) w.r-is ∙ w.with-r.ensures ∙ ap (λ (k : ℕ). inserted 32 k (i test)) before
+            ∙ sent_with (i test) (sends test) (atoms test) (omega arith) (tested test w.if-has.true)
+        | else-has w ↦ ap (λ (s : AtomSet). s.0) w.r-is ∙ before ∙ sent_without (i test) (sends test) (atoms test) (tested test w.if-has.false)
+      ],
     )
 
 returns : tie.Need-returns invariant_loop decreases_loop
 returns c =
     let args = c.before.before.before.args in
-    let all : c.before.loop.i ≡ args.n = omega arith in
-    c.before.loop.invariant.1 ∙ ap (λ (k : ℕ). sent_into k (image (images_of args.n args.values.now args.x.0)) args.atoms.0) all
+    let all : c.before.loop-i.i ≡ args.n = omega arith in
+    c.before.loop-i.invariant.1 ∙ ap (λ (k : ℕ). sent_into k (image (images_of args.n args.values.now args.x.0)) args.atoms.0) all
 
 pub through_images_spec : {M : Type 1} → statement M
 through_images_spec =

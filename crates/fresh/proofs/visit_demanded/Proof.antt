@@ -17,11 +17,12 @@ use Rattle.fresh.proofs.Beginning.{Beginning, beginning_start, beginning_more, b
 use Rattle.fresh.proofs.visit_demanded.Statement.{statement}
 use Rattle.fresh.proofs.visit_demanded.Tie as tie
 
-abbrev invariant_loop : tie.invariant-loop
+abbrev invariant_loop : tie.invariant-loop-n
 invariant_loop s places asked₀ seen₀ nodes n₀ asked seen n =
-    (n ≤ nodes) × (asked_of_nodes asked ≡ asked_of_nodes asked₀) × Beginning (problem_of s) (asked_of_nodes asked₀) (asked_of_variables asked₀) n seen (asked_of_variables asked)
+    (n ≤ nodes) × (asked_of_nodes asked ≡ asked_of_nodes asked₀)
+    × Beginning (problem_of s) (asked_of_nodes asked₀) (asked_of_variables asked₀) n seen (asked_of_variables asked)
 
-abbrev decreases_loop : tie.decreases-loop
+abbrev decreases_loop : tie.decreases-loop-n
 decreases_loop s places asked₀ seen₀ nodes n₀ asked seen n = nodes - n
 
 -- ---- at the start
@@ -41,82 +42,82 @@ module _ (c : tie.Start invariant_loop decreases_loop) where
 
 -- ---- in a turn
 
-module _ (c : tie.In-loop invariant_loop decreases_loop) where
+module _ (c : tie.In-loop-n invariant_loop decreases_loop) where
   abbrev start : tie.Start invariant_loop decreases_loop
   start = c.before.before.before
 
-  abbrev turn : tie.At-loop invariant_loop decreases_loop
+  abbrev turn : tie.At-loop-n invariant_loop decreases_loop
   turn = c.before
 
-  few : turn.loop.n < length (problem start).nodes
-  few = omega (arith, all_nodes start, c.loop-test.true)
+  few : turn.loop-n.n < length (problem start).nodes
+  few = omega (arith, all_nodes start, c.loop-n-test.true)
 
-  few_nodes : turn.loop.n < 512
+  few_nodes : turn.loop-n.n < 512
   few_nodes = omega (arith, few, (stands start).readable.few_nodes)
 
 -- ---- where the atoms demanded of the node are read
 
-module _ (c : tie.After-demanded-of invariant_loop decreases_loop) where
-  abbrev in_turn : tie.In-loop invariant_loop decreases_loop
+module _ (c : tie.After-demanded_of-atoms invariant_loop decreases_loop) where
+  abbrev in_turn : tie.In-loop-n invariant_loop decreases_loop
   in_turn = c.before.before.before
 
   abbrev asked : List (List ℕ)
-  asked = (turn in_turn).loop.asked
+  asked = (turn in_turn).loop-n.asked
 
   two_columns : length asked ≡ 2
-  two_columns = c.before.demanded-of-arg2.given.0
+  two_columns = c.before.demanded_of-arg-in-loop-n-1.given
 
   -- They are those that were demanded at first.
-  as_demanded : c.demanded_of.result.0 ≡ get_or (asked_of_nodes (start in_turn).args.asked.now) (turn in_turn).loop.n 0
-  as_demanded = c.demanded_of.ensures ∙ ap (λ (t : List ℕ). get_or t (turn in_turn).loop.n 0) (turn in_turn).loop.inv.1
+  as_demanded : c.demanded_of-atoms.result.0 ≡ get_or (asked_of_nodes (start in_turn).args.asked.now) (turn in_turn).loop-n.n 0
+  as_demanded = c.demanded_of-atoms.ensures ∙ ap (λ (t : List ℕ). get_or t (turn in_turn).loop-n.n 0) (turn in_turn).loop-n.invariant.1
 
 -- ---- what is to be shown, in the code's order
 
-loop_holds : tie.Need-loop-init invariant_loop decreases_loop
+loop_holds : tie.Need-loop-n-init invariant_loop decreases_loop
 loop_holds c = (omega arith, refl, beginning_start _ _ _ c.before.args.seen.now (none_seen c.before))
 
-cast_t10 : tie.Need-overflow-cast-t10 invariant_loop decreases_loop
+cast_t10 : tie.Need-overflow_cast-node invariant_loop decreases_loop
 cast_t10 c = omega (arith, few_nodes c)
 
-demanded_of_requires : tie.Need-demanded-of-requires invariant_loop decreases_loop
-demanded_of_requires c κs = (omega (arith, c.demanded-of-arg2.given.0), few_nodes c.before.before)
+demanded_of_requires : tie.Need-demanded_of-atoms-requires invariant_loop decreases_loop
+demanded_of_requires c κs = (omega (arith, c.demanded_of-arg-in-loop-n-1.given), few_nodes c.before.before)
 
-add_n : tie.Need-overflow-add-n invariant_loop decreases_loop
+add_n : tie.Need-overflow_add-n invariant_loop decreases_loop
 add_n c = search rules
 
-is_empty_requires : tie.Need-is-empty-requires invariant_loop decreases_loop
+is_empty_requires : tie.Need-is_empty-requires invariant_loop decreases_loop
 is_empty_requires c κs = search rules
 
-loop_less : tie.Need-loop-smaller invariant_loop decreases_loop
+loop_less : tie.Need-loop-n-smaller-then-is_empty invariant_loop decreases_loop
 loop_less c = search rules
 
-loop_again : tie.Need-loop-preserved invariant_loop decreases_loop
+loop_again : tie.Need-loop-n-preserved-then-is_empty invariant_loop decreases_loop
 loop_again c =
     let read = c.before.before in
-    let inv = (turn (in_turn read)).loop.inv in
-    let none_here = sym (as_demanded read) ∙ eqb-true _ 0 (sym c.before.is_empty.ensures ∙ c.if1.true) in
-    (search rules, inv.1, beginning_skip _ _ _ (turn (in_turn read)).loop.n none_here inv.2)
+    let inv = (turn (in_turn read)).loop-n.invariant in
+    let none_here = sym (as_demanded read) ∙ eqb-true _ 0 (sym c.before.is_empty.ensures ∙ c.if-is_empty.true) in
+    (search rules, inv.1, beginning_skip _ _ _ (turn (in_turn read)).loop-n.n none_here inv.2)
 
-index_1_visit : tie.Need-bounds-1-visit invariant_loop decreases_loop
+index_1_visit : tie.Need-bounds-asked-1 invariant_loop decreases_loop
 index_1_visit c = search rules
 
 visit_requires : tie.Need-visit-requires invariant_loop decreases_loop
 visit_requires c κs =
     let in_loop = in_turn c.before.before.before.before in
-    ((stands (start in_loop), few in_loop), looked_settled ((turn in_loop).loop.inv.2.looked (λ X. none)))
+    ((stands (start in_loop), few in_loop), looked_settled ((turn in_loop).loop-n.invariant.2.looked (λ X. none)))
 
-loop_less_2 : tie.Need-loop-smaller-2 invariant_loop decreases_loop
+loop_less_2 : tie.Need-loop-n-smaller invariant_loop decreases_loop
 loop_less_2 c = search rules
 
-loop_again_2 : tie.Need-loop-preserved-2 invariant_loop decreases_loop
+loop_again_2 : tie.Need-loop-n-preserved invariant_loop decreases_loop
 loop_again_2 c =
     let read = c.before.before.before.before.before in
-    let inv = (turn (in_turn read)).loop.inv in
-    let variables = c.visit.new.1.1.1.1.1.0 in
+    let inv = (turn (in_turn read)).loop-n.invariant in
+    let variables = c.visit.new.on_variables in
     let written = get_or-set_same (asked read) 1 variables [] (omega (arith, two_columns read)) in (
       search rules,
       get_or-set_other (asked read) 1 0 variables [] (λ q. omega arith) ∙ inv.1,
-      rw written (beginning_more _ _ _ (turn (in_turn read)).loop.n read.demanded_of.result.0 (few (in_turn read)) (as_demanded read)
+      rw written (beginning_more _ _ _ (turn (in_turn read)).loop-n.n read.demanded_of-atoms.result.0 (few (in_turn read)) (as_demanded read)
           inv.2 c.visit.ensures),
     )
 
@@ -124,8 +125,8 @@ returns : tie.Need-returns invariant_loop decreases_loop
 returns c =
     let turn = c.before in
     let start = turn.before.before in
-    let all : turn.loop.n ≡ length (problem start).nodes = omega (arith, all_nodes start) in
-    (beginning_end _ _ _ (rw (← all) turn.loop.invariant.2), turn.loop.invariant.1)
+    let all : turn.loop-n.n ≡ length (problem start).nodes = omega (arith, all_nodes start) in
+    (beginning_end (problem start) _ _ (rw (← all) turn.loop-n.invariant.2), turn.loop-n.invariant.1)
 
 pub visit_demanded_spec : {M : Type 1} → statement M
 visit_demanded_spec =
