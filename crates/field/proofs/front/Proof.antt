@@ -1,4 +1,5 @@
 -- `field::front` tells what stands at the front: each way out is one of the four laws.
+use native.Mathlib.Omega.{arith}
 use mathlib.Core.Path.{sym}
 use Prim.Native.Nat.{◌+◌, ◌*◌}
 use Rattle.field.proofs.Told.{is_end, is_short, is_whole, is_cut}
@@ -45,7 +46,7 @@ returns_3 c =
     let at_start = at_if1.before.before in
     sym (is_whole at_start.args.s.now
     (at_wide.wide.result * 256 + at_wide2.wide-2.result) (cc)
-    at_if1.if-s-lt3.false at_if3.if-n-s.true)
+    at_if1.if-s-lt3.false (omega (arith, at_if3.if-n-s.true)))
 
 returns_4 : tie.Need-returns
 returns_4 c =
