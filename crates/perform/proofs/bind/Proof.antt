@@ -13,16 +13,16 @@ few c = rw c.requires.1 c.requires.0.readable.few_atoms
 few_bound : (c : tie.Start) → c.args.state.count ≤ 64
 few_bound c = keeps_few _ _ _ c.requires.3
 
-whole_requires : tie.Need-whole-requires
+whole_requires : tie.Need-whole-outer-requires
 whole_requires c κs = search rules
 
-under_inverse_requires : tie.Need-under-inverse-requires
+under_inverse_requires : tie.Need-under_inverse-images-requires
 under_inverse_requires c κs = few c.before.before
 
-add_requires : tie.Need-add-requires
+add_requires : tie.Need-add-more-requires
 add_requires c κs = search rules
 
-add_goes : tie.Need-overflow-add-goes
+add_goes : tie.Need-overflow_add-count
 add_goes c =
     let at_start = c.before.before.before.before.before.before.before in
     omega (arith, few_bound at_start)
@@ -36,8 +36,8 @@ returns c =
     let at_images = at_add.before.before.before.before in
     let at_whole = at_images.before in
     let args = at_whole.before.before.args in
-    let images = at_images.under_inverse in
-    bound_to at_add.add.ensures (value_is _ _ _ _ _ args.q images.result args.k at_whole.whole.ensures images.ensures) c.goes.ensures
+    let images = at_images.under_inverse-images in
+    bound_to at_add.add-more.ensures (value_is _ _ _ _ _ args.q images.result args.k at_whole.whole-outer.ensures images.ensures) c.goes.ensures
 
 pub bind_spec : {M : Type 1} → statement M
 bind_spec = tie.close (tie.spec whole_requires under_inverse_requires add_requires add_goes goes_requires returns)
