@@ -123,8 +123,8 @@ module _ {g : Ground} {variables : ℕ} {bs : List Binding} {σ : Substitution} 
   meant_lines τ h X v e = equal_transitive (rw (m.worth X v e) at (h X)) (equal_symmetric (satisfies_tree τ σ h (side_tree g.nodes v)))
 
   -- So bindings may be read as equations.
-  pub meant_equations_lem : (∇ : Environment) (τ : Substitution) → Satisfies ∇ τ σ ↔ Lines ∇ τ g.nodes bs
-  meant_equations_lem ∇ τ = (meant_lines τ, m.follows ∇ τ)
+  pub meant_equations : (∇ : Environment) (τ : Substitution) → Satisfies ∇ τ σ ↔ Lines ∇ τ g.nodes bs
+  meant_equations ∇ τ = (meant_lines τ, m.follows ∇ τ)
 
 -- ---- resolving
 

@@ -1,4 +1,4 @@
-pub mod Table
+pub mod AllCases
 pub mod Limit
 pub mod Same
 pub mod Trees
