@@ -45,6 +45,7 @@ either false y e = inr e
 
 -- A demand that passes a test is found, and what is found passes it.
 found : (f : ℕ → Subject → Bool) (ds : List Demand) (x : Demand) → Memᴰ x ds → f x.atom x.subject ≡ true → (e : ℕ) × (first_raised f ds ≡ some e)
+found f [] x m t = elim m [ ]
 found f (d ∷ ds) x (Memᴰ.head e) t = (d.equation, rw (sym (ap (λ (y : Demand). f y.atom y.subject) e) ∙ t))
 found f (d ∷ ds) x (Memᴰ.tail m) t =
     let (e, q) = found f ds x m t in
@@ -163,6 +164,7 @@ abbrev AssumedIn : List Assumed → Pair → Type 0
 AssumedIn ds w = (d : Assumed) × Memᴰ d ds × (w ≡ assumed_pair d)
 
 fresh_in : (ds : List Fresh) (d : Fresh) → Memᴰ d ds → asks_fresh ds d.atom d.node ≡ true
+fresh_in [] d m = elim m [ ]
 fresh_in (e ∷ ds) d (Memᴰ.head q) = rw (← q, eq-eqb d.node d.node refl, eq-eqb d.atom d.atom refl)
 fresh_in (e ∷ ds) d (Memᴰ.tail m) = rw (fresh_in ds d m) (or_true (eqb e.node d.node && eqb e.atom d.atom))
 
@@ -178,6 +180,7 @@ fresh_found (e ∷ ds) a n t = go (fresh_found ds a n) (either (eqb e.node n && 
     go r (inr q) = let (d, m, x) = r q in (d, Memᴰ.tail m, x)
 
 assumed_in : (ds : List Assumed) (d : Assumed) → Memᴰ d ds → assumes ds d.atom d.variable ≡ true
+assumed_in [] d m = elim m [ ]
 assumed_in (e ∷ ds) d (Memᴰ.head q) = rw (← q, eq-eqb d.atom d.atom refl, eq-eqb d.variable d.variable refl)
 assumed_in (e ∷ ds) d (Memᴰ.tail m) = rw (assumed_in ds d m) (or_true (eqb e.atom d.atom && eqb e.variable d.variable))
 
