@@ -1,5 +1,5 @@
 #!/usr/bin/env python3
-"""Prints long/long.tsv: a run whose count of steps needs four bytes. It takes seconds under an emulator, so it is apart from the cases that are run often."""
+"""Prints long/long.tsv: a run whose count of steps needs four bytes. No other run is nearly as long, so it is apart from the cases that are run often."""
 
 from problem import Case
 
