@@ -38,4 +38,5 @@ pub returns-in-Good : goal.returns-in-Good
 unfolding sets_cleared
 returns-in-Good c =
     let before = reader_tables c.args.places.now c.args.assumed.now c.args.node_variables.now in
-    well_opened c.args.s.now before (λ i. (c.type_inv.s i).fits) c.if-s-gt-MOST_BYTES.false _ _ c.fields.result (sym c.in-Good.ensures) (rw c.clear.ensures at c.fields.ensures)
+    well_opened c.args.s.now before (λ i. (c.type_inv.s i).fits) c.if-s-gt-MOST_BYTES.false _ _ c.fields.result (sym c.in-Good.ensures)
+    (rw c.clear.ensures at c.fields.ensures)
