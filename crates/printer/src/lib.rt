@@ -107,6 +107,7 @@ fn put_fresh(out: &mut [u8], at: usize, atom: Atom, variable: Variable) -> usize
     put(out, c, b"\n")
 }
 
+#[tactic(auto, unfolding(layout::specs::Parts::part_fits))]
 fn is_known(tag: u8, n: usize) -> bool
     ensures { result ≡ part_fits tag n }
 {
@@ -122,6 +123,7 @@ fn is_known(tag: u8, n: usize) -> bool
     false
 }
 
+#[tactic(auto, using(crate::proofs::Walking::steps_length, crate::proofs::Walking::binding_length, crate::proofs::Walking::fact_length))]
 fn put_field(out: &mut [u8], at: usize, tag: u8, body: &[u8]) -> usize
     requires { part_fits tag (length body.now) ≡ true }
     ensures { Placed out.old at (field_line tag body.now) result out.new }
@@ -172,6 +174,7 @@ fn put_answer(out: &mut [u8], at: usize, answer: &[u8]) -> usize
 }
 
 // The solver's lines, from what it gives back: the number, the place and the lent output.
+#[tactic(auto, unfolding(crate::specs::Lines::solver_lines))]
 pub fn solver_lines(out: &mut [u8], at: usize, number: u8, place: usize, output: &[u8]) -> usize
     ensures { Placed out.old at (solver_lines number place output.now) result out.new }
 {
@@ -185,6 +188,7 @@ pub fn solver_lines(out: &mut [u8], at: usize, number: u8, place: usize, output:
 }
 
 // The judge's line.
+#[tactic(auto, unfolding(crate::specs::Lines::judge_line))]
 pub fn judge_line(out: &mut [u8], at: usize, number: u8, place: usize) -> usize
     ensures { Placed out.old at (judge_line number place) result out.new }
 {
@@ -249,6 +253,7 @@ fn begins(s: &[u8], word: &[u8]) -> bool
 }
 
 // Tells by its word what a line says, so that whoever reads the lines again need not know how they are written.
+#[tactic(auto, unfolding(crate::specs::Kinds::kind_of))]
 pub fn kind_of(line: &[u8]) -> Kind
     ensures { result ≡ kind_of line.now }
 {

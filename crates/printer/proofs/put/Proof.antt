@@ -11,50 +11,50 @@ use Rattle.printer.proofs.Placing.{placed_past, placed_nothing, placed_length, �
 use Rattle.printer.proofs.put.Statement.{statement}
 use Rattle.printer.proofs.put.Tie as tie
 
-abbrev invariant_loop : tie.invariant-loop
+abbrev invariant_loop : tie.invariant-loop-i
 invariant_loop out₀ at s end₀ i₀ out end i = (i ≤ length s) × Placed out₀ at (take i s) end out
 
-abbrev decreases_loop : tie.decreases-loop
+abbrev decreases_loop : tie.decreases-loop-i
 decreases_loop out₀ at s end₀ i₀ out end i = length s - i
 
-returns : tie.Need-returns invariant_loop decreases_loop
-returns c = placed_past _ _ _ c.if1.true
+returns : tie.Need-returns-then-out-at invariant_loop decreases_loop
+returns c = placed_past _ _ _ c.if-out-at.true
 
-loop_holds : tie.Need-loop-init invariant_loop decreases_loop
+loop_holds : tie.Need-loop-i-init invariant_loop decreases_loop
 loop_holds c = (search rules, placed_nothing _ _ (omega arith))
 
-shared_slice_read_put_byte : tie.Need-shared-slice-read-put-byte invariant_loop decreases_loop
+shared_slice_read_put_byte : tie.Need-bounds-s-i invariant_loop decreases_loop
 shared_slice_read_put_byte c = search rules
 
-put_byte_requires : tie.Need-put-byte-requires invariant_loop decreases_loop
+put_byte_requires : tie.Need-put_byte-end-requires invariant_loop decreases_loop
 put_byte_requires c κs = search rules
 
-add_i : tie.Need-overflow-add-i invariant_loop decreases_loop
+add_i : tie.Need-overflow_add-i invariant_loop decreases_loop
 add_i c = search rules
 
-loop_less : tie.Need-loop-smaller invariant_loop decreases_loop
+loop_less : tie.Need-loop-i-smaller invariant_loop decreases_loop
 loop_less c = search rules
 
-loop_again : tie.Need-loop-preserved invariant_loop decreases_loop
+loop_again : tie.Need-loop-i-preserved invariant_loop decreases_loop
 loop_again c =
     let at_put_byte = c.before.before in
     let in_loop = at_put_byte.before.before.before.before in
     let at_start = in_loop.before.before.before.before in
-    let h : in_loop.loop.i < length at_start.args.s.now = omega arith in (
+    let h : in_loop.loop-i.i < length at_start.args.s.now = omega arith in (
       search rules,
-      rw (add-one in_loop.loop.i, take-suc at_start.args.s.now in_loop.loop.i 0 h)
-          (in_loop.loop.invariant.1 then at_put_byte.put_byte.ensures),
+      rw (add-one in_loop.loop-i.i, take-suc at_start.args.s.now in_loop.loop-i.i 0 h)
+          (in_loop.loop-i.invariant.1 then at_put_byte.put_byte-end.ensures),
     )
 
-same_length : tie.Need-same-length invariant_loop decreases_loop
-same_length c = placed_length c.before.loop.invariant.1
+same_length : tie.Need-shape_of-out invariant_loop decreases_loop
+same_length c = placed_length c.before.loop-i.invariant.1
 
-returns_2 : tie.Need-returns-2 invariant_loop decreases_loop
+returns_2 : tie.Need-returns invariant_loop decreases_loop
 returns_2 c =
     let in_loop = c.before in
     let at_start = in_loop.before.before.before.before in
-    let e : in_loop.loop.i ≡ length at_start.args.s.now = omega arith in
-    rw (take-length at_start.args.s.now) at (rw e at in_loop.loop.invariant.1)
+    let e : in_loop.loop-i.i ≡ length at_start.args.s.now = omega arith in
+    rw (take-length at_start.args.s.now) at (rw e at in_loop.loop-i.invariant.1)
 
 pub put_spec : {M : Type 1} → statement M
 put_spec =

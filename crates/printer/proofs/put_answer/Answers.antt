@@ -1,0 +1,55 @@
+-- The lines of an answer, field by field: the rest is passed on.
+use Rattle.std.proofs.Common.{◌+◌, sym, ◌∙◌, arith}
+use lib.ListN.{length-drop}
+use Rattle.printer.proofs.Placing.{placed_past}
+use Rattle.printer.proofs.Walking.{midway_start, midway_stop, midway_cut, midway_unknown, midway_more, whole_fits, body_length, passed_on}
+use Rattle.printer.proofs.put_answer.Goals as goal
+
+pub returns-then-out-at : goal.returns-then-out-at
+returns-then-out-at c = placed_past _ _ _ c.if-out-at.true
+
+pub loop-tag-init : goal.loop-tag-init
+loop-tag-init c = midway_start _ _ _ (omega arith)
+
+pub returns-in-End : goal.returns-in-End
+returns-in-End c = midway_stop _ _ _ _ _ _ c.loop-tag.invariant (sym c.in-End.ensures)
+
+pub returns-in-Cut : goal.returns-in-Cut
+returns-in-Cut c = midway_cut _ _ _ _ _ _ c.loop-tag.invariant (sym c.in-Cut.ensures)
+
+pub returns-then-not-is_known : goal.returns-then-not-is_known
+returns-then-not-is_known c =
+    midway_unknown _ _ _ _ _ _ c.loop-tag.invariant c.in-Whole.tag c.in-Whole.n (sym c.in-Whole.ensures)
+    (sym c.is_known.ensures ∙ c.if-not-is_known.true)
+
+pub body-body-requires : goal.body-body-requires
+body-body-requires c = whole_fits _ _ _ _ _ _ c.loop-tag.invariant c.in-Whole.tag c.in-Whole.n (sym c.in-Whole.ensures)
+
+pub put_field-end-requires : goal.put_field-end-requires
+put_field-end-requires c =
+    rw (c.body-body.ensures, body_length _ _ _ _ _ _ c.loop-tag.invariant c.in-Whole.tag c.in-Whole.n (sym c.in-Whole.ensures))
+    (sym c.is_known.ensures ∙ c.if-not-is_known.false)
+
+pub overflow_add-rest : goal.overflow_add-rest
+overflow_add-rest c = omega (arith, whole_fits _ _ _ _ _ _ c.loop-tag.invariant c.in-Whole.tag c.in-Whole.n (sym c.in-Whole.ensures))
+
+pub slice_bounds-rest-count : goal.slice_bounds-rest-count
+slice_bounds-rest-count c = omega (arith, whole_fits _ _ _ _ _ _ c.loop-tag.invariant c.in-Whole.tag c.in-Whole.n (sym c.in-Whole.ensures))
+
+pub slice_bounds-rest-start : goal.slice_bounds-rest-start
+slice_bounds-rest-start c = omega (arith, whole_fits _ _ _ _ _ _ c.loop-tag.invariant c.in-Whole.tag c.in-Whole.n (sym c.in-Whole.ensures))
+
+pub loop-tag-smaller : goal.loop-tag-smaller
+loop-tag-smaller c =
+    rw (passed_on (3 + c.in-Whole.n) c.loop-tag.rest.now)
+    (omega (
+      arith,
+      length-drop (3 + c.in-Whole.n) c.loop-tag.rest.now,
+      whole_fits _ _ _ _ _ _ c.loop-tag.invariant c.in-Whole.tag c.in-Whole.n (sym c.in-Whole.ensures),
+    ))
+
+pub loop-tag-preserved : goal.loop-tag-preserved
+loop-tag-preserved c =
+    rw (passed_on (3 + c.in-Whole.n) c.loop-tag.rest.now)
+    (midway_more _ _ _ _ _ _ c.loop-tag.invariant c.in-Whole.tag c.in-Whole.n (sym c.in-Whole.ensures) _ _
+    (sym c.is_known.ensures ∙ c.if-not-is_known.false) (rw c.body-body.ensures at c.put_field-end.ensures))
