@@ -29,6 +29,13 @@ Last count out after End written taken = Handed [] after taken
 Last count out after Cut written taken = Handed (cut_line count) after taken
 Last count out after Unreadable written taken = Handed [] after taken
 
+-- What is written after the block of a problem that came so: the line of a cut.
+abbrev pub said_of : ℕ → Came → List ℕ
+said_of count (Whole n) = []
+said_of count End = []
+said_of count Cut = cut_line count
+said_of count Unreadable = []
+
 -- What a turn means for the stream.
 pub record Settled (count : ℕ) (out after : List ℕ) (turned : Outcome) (r : Ending) : Type 0 where
   pub stands : r.how ≡ cond r.taken.whole (stands_of turned.reading.came) how.Unwritten

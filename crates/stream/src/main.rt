@@ -3,18 +3,24 @@
 // before the cut. After a write that failed nothing more is read or written. The work tables are made once.
 #![tactic(auto)]
 
-ghost use Rattle.std.specs.Prelude.{◌+◌, ◌*◌, ◌≤◌, length};
+ghost use Rattle.std.specs.Prelude.{◌+◌, ◌*◌, ◌≤◌, length, take};
+ghost use Rattle.std.specs.Io.KnownBytes.{Appends};
 ghost use Rattle.standing.specs.Settled.{Ends};
-ghost use Rattle.stream.specs.Turned.{Turned};
+ghost use Rattle.stream.specs.Turned.{text_of, Turned};
 
 use frames::Came;
 use solver::tables::{
     Asked, Assumed, Firsts, Heads, Images, Made, Marks, NodeVariables, Places, Values,
 };
 use standing::{Ending, How, Outcome};
+use std::io::{Read, Write};
+use std::time::Clock;
 
 // One turn: the next problem is read, solved and judged, and its block is written.
-fn turn(
+fn turn<R: Read, W: Write, C: Clock>(
+    from: &mut R,
+    to: &mut W,
+    clock: &C,
     input: &mut [u8],
     output: &mut [u8],
     out: &mut [u8],
@@ -31,9 +37,11 @@ fn turn(
 ) -> Outcome
     requires in_bounds { 4 ≤ length input.old }
     requires output_in_bounds { 4 * length output.old + 67 ≤ length out.old }
-    ensures { Turned input.new output.old out.new result }
+    ensures turned { Turned input.new output.old out.new result }
+    ensures written { Appends (W.contents to.old) (W.contents to.new)
+        (take result.taken.count (text_of input.new output.old result.reading.came)) }
 {
-    let reading = frames::next(input);
+    let reading = frames::next(from, clock, input);
     let came = reading.came;
     let Came::Whole(n) = came else {
         let taken = outlet::nothing();
@@ -71,7 +79,7 @@ fn turn(
         marks,
     );
     let end = block::lines(out, solved, output, judged);
-    let taken = outlet::put(1, &out[..end]);
+    let taken = outlet::put(to, clock, &out[..end]);
     Outcome {
         reading: reading,
         taken: taken,
@@ -79,7 +87,10 @@ fn turn(
 }
 
 // Every problem of the stream, one after the other, until none comes or its block could not be written whole.
-fn all(
+fn all<R: Read, W: Write, C: Clock>(
+    from: &mut R,
+    to: &mut W,
+    clock: &C,
     input: &mut [u8],
     output: &mut [u8],
     out: &mut [u8],
@@ -102,9 +113,13 @@ fn all(
     let mut ending = Ending {
         how: How::Open,
         taken: outlet::nothing(),
+        read: descriptor::none(),
     };
     while count < 18446744073709551615 {
         let turned = turn(
+            from,
+            to,
+            clock,
             input,
             output,
             out,
@@ -119,7 +134,7 @@ fn all(
             firsts,
             marks,
         );
-        ending = standing::settled(turned, count, out);
+        ending = standing::settled(to, clock, turned, count, out);
         let how = ending.how;
         let How::Open = how else {
             return ending;
@@ -129,25 +144,27 @@ fn all(
     ending
 }
 
-// What whoever started the program has to know, since it has no exit status. No call of the C library comes between the one that failed and this, so errno
-// is that one's. This, and that `main` tells what `all` gives back, is tested and not proved.
-fn tell(how: How) {
-    match how {
+// What whoever started the program has to know, since it has no exit status. That `main` tells what `all` gives back is tested and not proved.
+fn tell<E: Write, C: Clock>(errors: &mut E, clock: &C, ending: Ending) {
+    match ending.how {
         How::Open => {}
         How::Through => {}
         How::Cut => {
-            notice::cut();
+            notice::cut(errors, clock);
         }
         How::Unreadable => {
-            notice::unreadable();
+            notice::unreadable(errors, clock, ending.read);
         }
         How::Unwritten => {
-            notice::unwritable();
+            notice::unwritable(errors, clock, outlet::last(ending.taken));
         }
     }
 }
 
-fn main() {
+fn main(rt: HostRuntime) {
+    let mut from = rt.stdin();
+    let mut to = rt.stdout();
+    let mut errors = rt.stderr();
     let mut places = solver::tables::EMPTY_PLACES;
     let mut assumed = solver::tables::EMPTY_ASSUMED;
     let mut node_variables = solver::tables::EMPTY_NODE_VARIABLES;
@@ -158,10 +175,13 @@ fn main() {
     let mut asked = solver::tables::EMPTY_ASKED;
     let mut firsts = solver::tables::EMPTY_FIRSTS;
     let mut marks = solver::tables::EMPTY_MARKS;
-    let mut input = io::large_buffer();
+    let mut input = [0u8; 65536];
     let mut output = [0u8; 16384];
     let mut out = [0u8; 65664];
     let ending = all(
+        &mut from,
+        &mut to,
+        &rt,
         &mut input,
         &mut output,
         &mut out,
@@ -176,6 +196,5 @@ fn main() {
         &mut firsts,
         &mut marks,
     );
-    let how = ending.how;
-    tell(how);
+    tell(&mut errors, &rt, ending);
 }
