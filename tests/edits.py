@@ -128,8 +128,9 @@ class Edit:
             return []
         part, path, line = at[1], at[2], int(at[3])
         if part == "proofs":
-            # a law's file, or one of a function's folder
-            return [path, os.path.dirname(path)]
+            # a law's file, or one of a function's folder; that of a function that calls itself begins with a plus
+            folder = os.path.dirname(path)
+            return [path, folder, folder.replace("+", "")]
         if part == "specs":
             return []
         file = "src/%s.rt" % path
