@@ -29,10 +29,10 @@ module _ {p : Problem} {t : Bindings} {count bound : ℕ} (m : MeaningIn p t cou
   bound_in = bound_values p m.protected t count bound m.keeps m.meaning
 
   -- The marks in the tables are read off as the definition's facts.
-  pub outcome : Readable p → {ds : List Asked} {S : Pair → Type 0} {seen after : List ℕ} {fails : Bool} → Asks p.nodes ds S
+  pub outcome : Readable p → {ds : List Asked} {S : Pair → Type 0} (seen : List ℕ) {after : List ℕ} {fails : Bool} → Asks p.nodes ds S
       → PairsResolved p.nodes (value_at p.atoms bound t.made t.values) S (Marked p seen after) (fails ≡ true)
       → Outcome p (bindings_of p.atoms t count) ds bound after fails
-  outcome r {ds} {S} {seen} {after} {fails} asks res =
+  outcome r {ds} {S} seen {after} {fails} asks res =
       let (failing, quiet) = resolved_tables p m.protected t count bound m.keeps m.meaning r.named_nodes seen after fails res ds asks in
       record {
         not_fresh = failing;

@@ -14,61 +14,58 @@ resolve_requires c κs =
 give_requires : tie.Need-give-requires
 give_requires c κs = search rules
 
-returns : tie.Need-returns
+returns : tie.Need-returns-then-resolve
 returns c =
     let at_fails = c.before in
     let at_resolved = at_fails.before in
     let (read, _) = at_resolved.before.before.before.before.requires in
     λ count steps ended.
     let outcome = at_resolved.resolve.ensures count ended.meant _ ended.asks in
-    judge_not_fresh read.standing.readable ended outcome at_fails.if1.true c.give.ensures
+    judge_not_fresh read.standing.readable ended outcome at_fails.if-resolve.true c.give.ensures
 
 words_requires : tie.Need-words-requires
 words_requires c κs = search rules
 
-cast_all_assumed : tie.Need-overflow-cast-all-assumed
+cast_all_assumed : tie.Need-overflow_cast-c
 cast_all_assumed c = search rules
 
-all_assumed_requires : tie.Need-all-assumed-requires
+all_assumed_requires : tie.Need-all_assumed-requires
 all_assumed_requires c κs =
-    let at_start = c.before.before.before.before.before.before.before.before.before in
-    few_variables at_start.requires.0
+    few_variables c.requires.0
 
-give_requires_2 : tie.Need-give-requires-2
+give_requires_2 : tie.Need-give-requires-then-all_assumed
 give_requires_2 c κs = search rules
 
-returns_2 : tie.Need-returns-2
+returns_2 : tie.Need-returns-then-all_assumed
 returns_2 c =
     let at_all = c.before in
     let at_asked = at_all.before in
-    let at_words = at_asked.before.before.before in
-    let at_quiet = at_words.before.before in
+    let at_words = at_asked.before.before in
+    let at_quiet = at_words.before in
     let at_resolved = at_quiet.before in
-    let at_start = at_resolved.before.before.before.before in
-    let (read, _) = at_start.requires in
+    let (read, _) = c.requires in
     λ count steps ended.
     let outcome = at_resolved.resolve.ensures count ended.meant _ ended.asks in
-    judge_holds read.standing.readable ended outcome at_quiet.if1.false at_words.words.ensures.1 at_start.args.assumed.now
-    read.assumptions (all_variables _ read.counts) at_asked.all_assumed.ensures at_all.if2.true
-    c.give2.ensures
+    judge_holds read.standing.readable ended outcome at_quiet.if-resolve.false at_words.words.ensures.1 c.args.assumed.now
+    read.assumptions (all_variables _ read.counts) at_asked.all_assumed.ensures at_all.if-all_assumed.true
+    c.give-then-all_assumed.ensures
 
-give_requires_3 : tie.Need-give-requires-3
+give_requires_3 : tie.Need-give-requires-2
 give_requires_3 c κs = search rules
 
-returns_3 : tie.Need-returns-3
+returns_3 : tie.Need-returns
 returns_3 c =
     let at_not_all = c.before in
     let at_asked = at_not_all.before in
-    let at_words = at_asked.before.before.before in
-    let at_quiet = at_words.before.before in
+    let at_words = at_asked.before.before in
+    let at_quiet = at_words.before in
     let at_resolved = at_quiet.before in
-    let at_start = at_resolved.before.before.before.before in
-    let (read, _) = at_start.requires in
+    let (read, _) = c.requires in
     λ count steps ended.
     let outcome = at_resolved.resolve.ensures count ended.meant _ ended.asks in
-    judge_does_not read.standing.readable ended outcome at_quiet.if1.false at_words.words.ensures.1 at_start.args.assumed.now
-    read.assumptions (all_variables _ read.counts) at_asked.all_assumed.ensures at_not_all.if2.false
-    c.give3.ensures
+    judge_does_not read.standing.readable ended outcome at_quiet.if-resolve.false at_words.words.ensures.1 c.args.assumed.now
+    read.assumptions (all_variables _ read.counts) at_asked.all_assumed.ensures at_not_all.if-all_assumed.false
+    c.give-2.ensures
 
 pub judged_spec : {M : Type 1} → statement M
 judged_spec =

@@ -6,22 +6,22 @@ use Rattle.ending.proofs.Resolving.{outcome}
 use Rattle.ending.proofs.resolve.Statement.{statement}
 use Rattle.ending.proofs.resolve.Tie as tie
 
-cast_add_freshness : tie.Need-overflow-cast-add-freshness
+cast_add_freshness : tie.Need-overflow_cast-c
 cast_add_freshness c = search rules
 
-add_freshness_requires : tie.Need-add-freshness-requires
+add_freshness_requires : tie.Need-add_freshness-requires
 add_freshness_requires c κs =
     let at_start = c.before.before.before in
     let (standing, counts) = at_start.requires.0 in
     (standing, all_freshness _ counts)
 
-cast_resolve : tie.Need-overflow-cast-resolve
+cast_resolve : tie.Need-overflow_cast-c-2
 cast_resolve c = search rules
 
-cast_resolve_2 : tie.Need-overflow-cast-resolve-2
+cast_resolve_2 : tie.Need-overflow_cast-c-3
 cast_resolve_2 c = search rules
 
-cast_resolve_3 : tie.Need-overflow-cast-resolve-3
+cast_resolve_3 : tie.Need-overflow_cast-c-4
 cast_resolve_3 c = search rules
 
 resolve_requires : tie.Need-resolve-requires
@@ -41,7 +41,7 @@ returns c =
     let at_Added = c.before.before.before.before.before.before in
     let readable = at_Added.before.before.before.before.requires.0.0.readable in
     λ count meant ds asks.
-    outcome meant readable (freshness_asks _ readable _ _ at_Added.add_freshness.ensures asks) c.resolve.ensures.0
+    outcome meant readable _ (freshness_asks _ readable _ _ at_Added.add_freshness.ensures asks) c.resolve.ensures.0
 
 pub resolve_spec : {M : Type 1} → statement M
 resolve_spec =
