@@ -1,0 +1,62 @@
+-- `down` meets its contract: each turn's step is the definition's, and what it leaves is on its way.
+use native.Mathlib.Omega.{arith}
+use mathlib.Core.Path.{refl}
+use Rattle.quick.proofs.Descending.{some_few, down_start, down_facing, down_waits, down_led, down_done, down_part, down_room, down_parts}
+use Rattle.quick.proofs.down.Goals as goal
+
+-- ---- the top
+
+pub nodes_at-top-requires : goal.nodes_at-top-requires
+nodes_at-top-requires c = omega (arith, c.requires.standing.2, some_few c.requires.standing.0 c.requires.some_going)
+
+pub loop-steps-init : goal.loop-steps-init
+loop-steps-init c = down_start c.requires.standing c.requires.some_going c.nodes_at-top.ensures
+
+-- ---- a turn of the loop
+
+pub through-i-requires : goal.through-i-requires
+through-i-requires c = (c.loop-steps.invariant.standing, (down_facing c.loop-steps.invariant).left.there)
+
+pub through-j-requires : goal.through-j-requires
+through-j-requires c = (c.loop-steps.invariant.standing, (down_facing c.loop-steps.invariant).right.there)
+
+pub meet-meeting-requires : goal.meet-meeting-requires
+meet-meeting-requires c = down_led c.loop-steps.invariant c.through-i.ensures c.through-j.ensures
+
+-- ---- the equation is left, or no step more may be taken
+
+pub wait-requires : goal.wait-requires
+wait-requires c = (down_facing c.loop-steps.invariant).placed
+
+pub wait-requires-2 : goal.wait-requires-2
+wait-requires-2 c = (down_facing c.loop-steps.invariant).placed
+
+pub returns-in-Leave : goal.returns-in-Leave
+returns-in-Leave c = down_waits c.loop-steps.invariant c.in-Leave.ensures c.wait.ensures
+
+pub returns : goal.returns
+returns c = down_waits c.loop-steps.invariant refl c.wait-2.ensures
+
+-- ---- it is done
+
+pub returns-in-Done : goal.returns-in-Done
+returns-in-Done c = down_done c.loop-steps.invariant c.through-i.ensures c.through-j.ensures c.loop-steps-test.true c.in-Done.ensures
+
+-- ---- it goes on with one part
+
+pub loop-steps-preserved-in-Part : goal.loop-steps-preserved-in-Part
+loop-steps-preserved-in-Part c =
+    down_part c.loop-steps.invariant c.through-i.ensures c.through-j.ensures c.loop-steps-test.true c.in-Part.ensures
+
+-- ---- with two
+
+pub split-requires : goal.split-requires
+split-requires c = down_room c.loop-steps.invariant c.through-i.ensures c.through-j.ensures c.loop-steps-test.true c.in-Parts.ensures
+
+pub overflow_add-n : goal.overflow_add-n
+overflow_add-n c =
+    omega (arith, down_room c.loop-steps.invariant c.through-i.ensures c.through-j.ensures c.loop-steps-test.true c.in-Parts.ensures)
+
+pub loop-steps-preserved : goal.loop-steps-preserved
+loop-steps-preserved c =
+    down_parts c.loop-steps.invariant c.through-i.ensures c.through-j.ensures c.loop-steps-test.true c.in-Parts.ensures c.split.ensures
