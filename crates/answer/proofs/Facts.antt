@@ -23,7 +23,8 @@ pub fact_set_bound : (A bound : ℕ) (asked : List ℕ) (X : ℕ) → member bou
 unfolding fact_set
 fact_set_bound A bound asked X m = rw m
 
-pub fact_set_unbound : (A bound : ℕ) (asked : List ℕ) (X : ℕ) → member bound X ≡ false → intersection (all_below 32 A) (get_or asked X 0) ≡ fact_set A bound asked X
+pub fact_set_unbound : (A bound : ℕ) (asked : List ℕ) (X : ℕ) → member bound X ≡ false
+    → intersection (all_below 32 A) (get_or asked X 0) ≡ fact_set A bound asked X
 unfolding fact_set
 fact_set_unbound A bound asked X m = rw m
 

@@ -38,7 +38,8 @@ binding_field_lem variable node images rest h k =
     field_lines 0x40 (variable ∷ bytes2 node ++ images) rest (omega arith) (le-leb 3 (length (variable ∷ bytes2 node ++ images)) (omega arith))
     ∙ ap (λ (n : ℕ). bind_line variable n images ++ answer_lines rest) (two_bytes node h)
 
-fact_field_lem : (atom variable : ℕ) (rest : List ℕ) → answer_lines (field_bytes 0x41 (atom ∷ variable ∷ []) ++ rest) ≡ fresh_line atom variable ++ answer_lines rest
+fact_field_lem : (atom variable : ℕ) (rest : List ℕ)
+    → answer_lines (field_bytes 0x41 (atom ∷ variable ∷ []) ++ rest) ≡ fresh_line atom variable ++ answer_lines rest
 unfolding part_fits field_line part
 fact_field_lem atom variable rest = field_lines 0x41 (atom ∷ variable ∷ []) rest (omega arith) refl
 

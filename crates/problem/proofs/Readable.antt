@@ -165,7 +165,8 @@ four_tests : (a b c d : Bool) → first_fault a b c d ≡ 0 → (a ≡ true) × 
 four_tests true true true true e = (refl, refl, refl, refl)
 four_tests true true true false e = absurd (omega arith)
 four_tests true true false d e = absurd (omega arith)
-four_tests true false c d e = absurd (omega arith)
+four_tests true false true d e = absurd (omega arith)
+four_tests true false false d e = absurd (omega arith)
 four_tests false b c d e = absurd (omega arith)
 
 pub faultless : (known : ℕ → Bool) (z : Sizes) (tag : ℕ) (s : List ℕ) → fault known z tag s ≡ 0 → Faultless known z tag s

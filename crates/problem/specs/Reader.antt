@@ -165,7 +165,8 @@ headed s = started (byte s 0) (byte s 1) (long s 2)
 
 unfoldable pub head_field : (ℕ → Bool) → Field → Reading
 head_field known cut = unreadable 3 0
-head_field known (whole tag s rest) = let r : Reading = fields_from known (length rest) (headed s) (3 + length s) rest in cond (good_head tag s) r (unreadable 2 0)
+head_field known (whole tag s rest) =
+    let r : Reading = fields_from known (length rest) (headed s) (3 + length s) rest in cond (good_head tag s) r (unreadable 2 0)
 
 -- "An empty input is 2."
 unfoldable pub read_all : (ℕ → Bool) → List ℕ → Reading
