@@ -5,13 +5,13 @@ use Rattle.machine.proofs.Running.{few_nodes, few_variables, began}
 use Rattle.machine.proofs.verdict.run.Statement.{statement}
 use Rattle.machine.proofs.verdict.run.Tie as tie
 
-cast_equations : tie.Need-overflow-cast-equations
+cast_equations : tie.Need-overflow_cast-equations
 cast_equations c = search rules
 
-cast_clear : tie.Need-overflow-cast-clear
+cast_clear : tie.Need-overflow_cast-c
 cast_clear c = search rules
 
-cast_clear_2 : tie.Need-overflow-cast-clear-2
+cast_clear_2 : tie.Need-overflow_cast-c-2
 cast_clear_2 c = search rules
 
 clear_requires : tie.Need-clear-requires
@@ -24,7 +24,7 @@ start_requires c κs =
     let at_start = c.before.before.before.before.before.before.before.before in
     (at_start.requires.0.standing, all_equations _ at_start.requires.0.counts)
 
-cast_go : tie.Need-overflow-cast-go
+cast_go : tie.Need-overflow_cast-c-3
 cast_go c = search rules
 
 go_requires : tie.Need-go-requires
