@@ -1,9 +1,5 @@
--- `solve::work` prints the lines of what the definition gives back.
-use Prim.Native.Nat.{ℕ, ◌*◌, ◌≤◌, ◌<◌}
-use native.Mathlib.Omega.{arith}
-use mathlib.Core.List.{List}
-use mathlib.Core.Path.{◌≡◌, ◌∙◌, ap}
-use lib.ListN.{length}
+-- The lines of what the definition gives back.
+use Rattle.std.proofs.Common.{◌≡◌, ◌<◌, ◌≤◌, ◌*◌, List, ℕ, rules, arith, length, ap, ◌∙◌}
 use Rattle.field.specs.Field.{Bytes}
 use Rattle.run.specs.Answer as run
 use Rattle.numbers.specs.declared.Given.{Given}
@@ -13,9 +9,7 @@ use Rattle.printer.specs.Placed.{Placed}
 use Rattle.printer.proofs.Fitting.{solver_length, placed_whole}
 use Rattle.solve.specs.Printing.{solver_lines_of}
 use Rattle.solve.specs.Serving.{SolverWorks}
-use borrow.Author.Rules.{rules}
-use Rattle.solve.proofs.work.Statement.{statement}
-use Rattle.solve.proofs.work.Tie as tie
+use Rattle.solve.proofs.work.Goals as goal
 
 -- What is printed of the number and the place is the lines, where the solver gave back what the definition says; and they are there whole.
 told :
@@ -31,41 +25,16 @@ told {r} {o} {d} {e} g s f x y z l m h =
       counts = h.counts;
     }
 
-solve_requires : tie.Need-solve-requires
-solve_requires c κs = search rules
-
-solver_lines_requires : tie.Need-solver-lines-requires
-solver_lines_requires c κs = search rules
-
-same_length : tie.Need-same-length
-same_length c = search rules
-
-same_length_2 : tie.Need-same-length-2
-same_length_2 c = search rules
-
-returns : tie.Need-returns
+pub returns : goal.returns
 returns c =
-    let known = c.before.before.before.before.before in
-    let solved = known.before.before in
-    let start = solved.before.before.before.before.before in
-    let small = solved.solve.type-inv in
+    let small = c.solve-given.type_inv in
     told
-    solved.solve.result
+    c.solve-given.result
     _
-    solved.solve.ensures
+    c.solve-given.ensures
     (omega (arith, small))
     (omega (arith, small))
-    (λ i. (known.slice-known3.given i).fits)
-    (omega (arith, solved.solve.auto.1.0, start.requires.0))
-    start.requires.1
-    c.before.before.solver_lines.ensures
-
-pub work_spec : {M : Type 1} → statement M
-work_spec =
-    tie.close
-    (tie.spec
-    solve_requires
-    solver_lines_requires
-    same_length
-    same_length_2
-    returns)
+    (search rules)
+    (omega (arith, c.solve-given.auto.output, c.requires.0))
+    c.requires.1
+    c.solver_lines-end.ensures

@@ -1,9 +1,5 @@
--- `judge::work` prints the line of what the definition gives back.
-use Prim.Native.Nat.{ℕ, ◌≤◌, ◌<◌}
-use native.Mathlib.Omega.{arith}
-use mathlib.Core.List.{List}
-use mathlib.Core.Path.{◌≡◌, ◌∙◌, ap}
-use lib.ListN.{length}
+-- The line of what the definition gives back.
+use Rattle.std.proofs.Common.{◌≡◌, ◌<◌, ◌≤◌, List, ℕ, arith, length, ap, ◌∙◌}
 use Rattle.run.specs.Answer as run
 use Rattle.numbers.specs.declared.Given.{Given}
 use Rattle.numbers.specs.Numbers.{judgement_given}
@@ -12,9 +8,7 @@ use Rattle.printer.specs.Placed.{Placed}
 use Rattle.printer.proofs.Fitting.{judge_length, placed_whole}
 use Rattle.judge.specs.Printing.{judge_line_of}
 use Rattle.judge.specs.Serving.{JudgeWorks}
-use borrow.Author.Rules.{rules}
-use Rattle.judge.proofs.work.Statement.{statement}
-use Rattle.judge.proofs.work.Tie as tie
+use Rattle.judge.proofs.work.Goals as goal
 
 -- What is printed of the number and the place is the line, where the judge gave back what the definition says; and it is there whole.
 told :
@@ -29,29 +23,7 @@ told {r} {d} {e} g j f x y m h =
       counts = h.counts;
     }
 
-judge_requires : tie.Need-judge-requires
-judge_requires c κs = search rules
-
-judge_line_requires : tie.Need-judge-line-requires
-judge_line_requires c κs = search rules
-
-same_length : tie.Need-same-length
-same_length c = search rules
-
-returns : tie.Need-returns
+pub returns : goal.returns
 returns c =
-    let judged = c.before.before.before.before in
-    let small = judged.judge.type-inv in
-    told
-    judged.judge.result
-    _
-    judged.judge.ensures
-    (omega (arith, small))
-    (omega (arith, small))
-    judged.before.before.before.requires
-    c.before.before.judge_line.ensures
-
-pub work_spec : {M : Type 1} → statement M
-work_spec =
-    tie.close
-    (tie.spec judge_requires judge_line_requires same_length returns)
+    let small = c.judge-given.type_inv in
+    told c.judge-given.result _ c.judge-given.ensures (omega (arith, small)) (omega (arith, small)) c.requires c.judge_line-end.ensures
