@@ -69,12 +69,17 @@ def split(text, mark):
     yield text[at:], ""
 
 
+def made(parts):
+    """Whether Rattle makes the module: what it makes of a function lies in the function's folder."""
+    return "declared" in parts or "contracts" in parts or (len(parts) > 4 and bool(GENERATED & set(parts[4:])))
+
+
 def foreign(text):
     """The names that a file takes from the kit, or that Rattle generates."""
     names = set()
     for path, items, alias in USE.findall(text):
         parts = path.split(".")
-        if len(parts) > 1 and parts[0] == "Rattle" and parts[1] in OWN and not GENERATED & set(parts):
+        if len(parts) > 1 and parts[0] == "Rattle" and parts[1] in OWN and not made(parts):
             continue
         names.update(TOKEN.findall(items or ""))
         if alias:
@@ -93,7 +98,7 @@ def own_fields(texts):
 def own_rooms(text):
     """The short names under which a file has modules of the repository's own."""
     return {alias for path, _, alias in USE.findall(text) if alias and path.split(".")[:1] == ["Rattle"] and path.split(".")[1] in OWN
-            and not GENERATED & set(path.split("."))}
+            and not made(path.split("."))}
 
 
 def places(text, mark, fields, not_own):

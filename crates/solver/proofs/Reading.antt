@@ -11,7 +11,7 @@ use Rattle.reader.specs.Told.{ReadAs}
 use Rattle.problem.specs.declared.Counts.{Counts}
 use Rattle.reader.specs.declared.Reading as answer
 use Rattle.reader.specs.declared.Reading.TheVariants.{Read, Refused}
-use Rattle.reader.proofs.Given.{is_read, is-refused}
+use Rattle.reader.proofs.Given.{is_read, is_refused}
 use Rattle.run.specs.Run.{run_of}
 use Rattle.run.specs.Answer.{verdict_of, verdict_read, Result, given, solve, judged_run, Judgement, judgement_of, judgement_read, judge}
 
@@ -20,7 +20,7 @@ module _ {s : List ℕ} {before after : ReaderTables} {r : answer.Reading} (h : 
 
   pub solve_refused : {g : Given} (output : List ℕ) → r ≡ Refused g → result_of g output ≡ solve s output
   unfolding solve verdict_read given
-  solve_refused output e = sym (ap (λ (x : Reading). given (verdict_read x) output) (is-refused h e))
+  solve_refused output e = sym (ap (λ (x : Reading). given (verdict_read x) output) (is_refused h e))
 
   pub solve_read : (output : List ℕ) {c : Counts} {x : Result} → r ≡ Read c → x ≡ given (verdict_of (problem_of s) (run_of (problem_of s))) output
       → x ≡ solve s output
@@ -31,7 +31,7 @@ module _ {s : List ℕ} {before after : ReaderTables} {r : answer.Reading} (h : 
 
   pub judge_refused : {g : Given} → r ≡ Refused g → judgement_given g ≡ judge s
   unfolding judge judgement_read
-  judge_refused e = sym (ap judgement_read (is-refused h e))
+  judge_refused e = sym (ap judgement_read (is_refused h e))
 
   pub judge_read : {c : Counts} {x : Judgement} → r ≡ Read c → x ≡ judgement_of (problem_of s) (judged_run (problem_of s)) → x ≡ judge s
   unfolding judge judgement_read
