@@ -1,0 +1,6 @@
+-- `cheesetrestle_solve` gives the definition's number and place in one word, and its output.
+use Rattle.cheesetrestle.proofs.Giving.{solved_fits}
+use Rattle.cheesetrestle.proofs.cheesetrestle_solve.Goals as goal
+
+pub joined-requires : goal.joined-requires
+joined-requires c = solved_fits c.args.input.now c.args.output.now c.solve-given.new.output c.solve-given.result c.solve-given.ensures (λ i. (c.type_inv.input i).fits)
