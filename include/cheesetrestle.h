@@ -51,10 +51,10 @@ uint32_t cheesetrestle_version(void);
  * and cheesetrestle_judge, whose tables are on it, and the four over lent tables.
  * It was measured, on stacks that had been filled before and on the deepest
  * problems that can be built; README.md has what each entry took. One function of
- * the archive calls itself, at most 256 deep and 80 bytes each time; nothing else
+ * the archive calls itself, at most 256 deep and 64 bytes each time; nothing else
  * grows with the problem. What a signal handler takes comes on top. */
 #define CHEESETRESTLE_STACK 114688
-#define CHEESETRESTLE_STACK_LENT 24576
+#define CHEESETRESTLE_STACK_LENT 20480
 
 /* What the solver and the judge work in: the first bytes of the input's fields, its
  * assumptions, the variables in each node, the equations that wait, the bindings
