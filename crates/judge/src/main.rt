@@ -66,13 +66,6 @@ fn main(rt: HostRuntime) {
     let mut errors = rt.stderr();
     let mut input = [0u8; 65536];
     let mut out = [0u8; 4096];
-    let served = serve(
-        &mut from,
-        &mut to,
-        &mut errors,
-        &rt,
-        &mut input,
-        &mut out,
-    );
+    let served = serve(&mut from, &mut to, &mut errors, &rt, &mut input, &mut out);
     exchange::close(&mut errors, &rt, served);
 }

@@ -7,6 +7,7 @@ ghost use Rattle.std.specs.Prelude.{◌+◌, ◌*◌, ◌≤◌, length, take};
 ghost use Rattle.std.specs.Io.KnownBytes.{Appends};
 ghost use Rattle.standing.specs.Settled.{Ends};
 ghost use Rattle.stream.specs.Turned.{text_of, Turned};
+ghost use Rattle.stream.specs.Written.{Wrote};
 
 use frames::Came;
 use solver::tables::{
@@ -107,7 +108,8 @@ fn all<R: Read, W: Write, C: Clock>(
 ) -> Ending
     requires in_bounds { 4 ≤ length input.old }
     requires output_in_bounds { 4 * length output.old + 67 ≤ length out.old }
-    ensures { Ends result.how result.taken.whole }
+    ensures ends { Ends result.how result.taken.whole }
+    ensures wrote { Wrote (W.contents to.old) (W.contents to.new) result.how }
 {
     let mut count: usize = 0;
     let mut ending = Ending {

@@ -1,7 +1,7 @@
 -- `stream::all` ends, since it counts the problems, and goes on only after a writing that was whole.
-use Rattle.std.proofs.Common.{◌≡◌, ◌-◌, length}
+use Rattle.std.proofs.Common.{◌≡◌, ◌-◌, true, length}
 use Rattle.standing.specs.declared.How.TheVariants.{Open}
-use Rattle.stream.proofs.Turning.{Gone}
+use Rattle.stream.proofs.Writings.{Blocks}
 use Rattle.stream.proofs.all.Given as goal
 
 abbrev pub invariant-loop-count : goal.invariant-loop-count
@@ -10,7 +10,8 @@ invariant-loop-count g l = record {
   output_stays : length l.output ≡ length l.initial.output;
   out_stays : length l.out ≡ length l.initial.out;
   goes_on : l.ending.how ≡ Open;
-  gone : Gone l.count l.out l.ending.taken;
+  whole : l.ending.taken.whole ≡ true;
+  blocks : Blocks (g.W.Write.contents l.initial.to) (g.W.Write.contents l.to) l.count;
 }
 
 abbrev pub decreases-loop-count : goal.decreases-loop-count

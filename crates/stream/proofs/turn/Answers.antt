@@ -1,7 +1,6 @@
 -- What is written is the block of the bytes that were read, and it was the front of the lent bytes that was handed out.
-use Rattle.std.proofs.Common.{◌≡◌, take, sym, ap, subst, ◌∙◌}
+use Rattle.std.proofs.Common.{take, sym, ap, subst, ◌∙◌}
 use Rattle.std.specs.Io.KnownBytes.{Appends}
-use Rattle.block.specs.Block.{block}
 use Rattle.block.proofs.Printing.{block_printed}
 use Rattle.stream.specs.Turned.{text_of}
 use Rattle.stream.proofs.Turning.{busy}
