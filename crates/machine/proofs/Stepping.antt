@@ -79,7 +79,8 @@ top_here : (s : List ℕ) (f : ℕ → Bool) (x : Side) → top (ground_in s f) 
 unfolding top
 top_here s f x = refl
 
-step_here_lem : (g : Ground) (bs : List Binding) (l r s t : Side) → s ≡ resolved g bs l → t ≡ resolved g bs r → rule g bs s t (top g s) (top g t) ≡ step g bs l r
+step_here_lem : (g : Ground) (bs : List Binding) (l r s t : Side) → s ≡ resolved g bs l → t ≡ resolved g bs r
+    → rule g bs s t (top g s) (top g t) ≡ step g bs l r
 unfolding step
 step_here_lem g bs l r s t e f = rw (e, f)
 

@@ -58,7 +58,8 @@ fn through(
     if !bound.has(x) {
         return node;
     }
-    if bindings::is_plain(values, x) {
+    let plain = bindings::is_plain(values, x);
+    if plain {
         return bindings::node_of(made, x);
     }
     node
