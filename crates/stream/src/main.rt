@@ -17,11 +17,17 @@ use standing::{Ending, How, Outcome};
 use std::io::{Read, Write};
 use std::time::Clock;
 
+// Where the problems come from, where their blocks go, and what rests between two tries.
+#[derive(Drop)]
+struct Ports<R, W, C> {
+    from: R,
+    to: W,
+    clock: C,
+}
+
 // One turn: the next problem is read, solved and judged, and its block is written.
 fn turn<R: Read, W: Write, C: Clock>(
-    from: &mut R,
-    to: &mut W,
-    clock: &C,
+    ports: &mut Ports<R, W, C>,
     input: &mut [u8],
     output: &mut [u8],
     out: &mut [u8],
@@ -39,10 +45,10 @@ fn turn<R: Read, W: Write, C: Clock>(
     requires in_bounds { 4 ≤ length input.old }
     requires output_in_bounds { 4 * length output.old + 67 ≤ length out.old }
     ensures turned { Turned input.new output.old out.new result }
-    ensures written { Appends (W.contents to.old) (W.contents to.new)
+    ensures written { Appends (W.contents ports.old.to) (W.contents ports.new.to)
         (take result.taken.count (text_of input.new output.old result.reading.came)) }
 {
-    let reading = frames::next(from, clock, input);
+    let reading = frames::next(&mut ports.from, &ports.clock, input);
     let came = reading.came;
     let Came::Whole(n) = came else {
         let taken = outlet::nothing();
@@ -80,7 +86,7 @@ fn turn<R: Read, W: Write, C: Clock>(
         marks,
     );
     let end = block::lines(out, solved, output, judged);
-    let taken = outlet::put(to, clock, &out[..end]);
+    let taken = outlet::put(&mut ports.to, &ports.clock, &out[..end]);
     Outcome {
         reading: reading,
         taken: taken,
@@ -89,9 +95,7 @@ fn turn<R: Read, W: Write, C: Clock>(
 
 // Every problem of the stream, one after the other, until none comes or its block could not be written whole.
 fn all<R: Read, W: Write, C: Clock>(
-    from: &mut R,
-    to: &mut W,
-    clock: &C,
+    ports: &mut Ports<R, W, C>,
     input: &mut [u8],
     output: &mut [u8],
     out: &mut [u8],
@@ -109,7 +113,7 @@ fn all<R: Read, W: Write, C: Clock>(
     requires in_bounds { 4 ≤ length input.old }
     requires output_in_bounds { 4 * length output.old + 67 ≤ length out.old }
     ensures ends { Ends result.how result.taken.whole }
-    ensures wrote { Wrote (W.contents to.old) (W.contents to.new) result.how }
+    ensures wrote { Wrote (W.contents ports.old.to) (W.contents ports.new.to) result.how }
 {
     let mut count: usize = 0;
     let mut ending = Ending {
@@ -119,9 +123,7 @@ fn all<R: Read, W: Write, C: Clock>(
     };
     while count < 18446744073709551615 {
         let turned = turn(
-            from,
-            to,
-            clock,
+            ports,
             input,
             output,
             out,
@@ -136,7 +138,7 @@ fn all<R: Read, W: Write, C: Clock>(
             firsts,
             marks,
         );
-        ending = standing::settled(to, clock, turned, count, out);
+        ending = standing::settled(&mut ports.to, &ports.clock, turned, count, out);
         let how = ending.how;
         let How::Open = how else {
             return ending;
@@ -164,8 +166,11 @@ fn tell<E: Write, C: Clock>(errors: &mut E, clock: &C, ending: Ending) {
 }
 
 fn main(rt: HostRuntime) {
-    let mut from = rt.stdin();
-    let mut to = rt.stdout();
+    let mut ports = Ports {
+        from: rt.stdin(),
+        to: rt.stdout(),
+        clock: rt,
+    };
     let mut errors = rt.stderr();
     let mut places = solver::tables::EMPTY_PLACES;
     let mut assumed = solver::tables::EMPTY_ASSUMED;
@@ -181,9 +186,7 @@ fn main(rt: HostRuntime) {
     let mut output = [0u8; 16384];
     let mut out = [0u8; 65664];
     let ending = all(
-        &mut from,
-        &mut to,
-        &rt,
+        &mut ports,
         &mut input,
         &mut output,
         &mut out,

@@ -30,7 +30,10 @@ loop-done-preserved g c =
     let long = mid_len done (length buf) buf (le_refl (length buf)) in
     let most : moved_of c.read-last.result.got ≤ length part = no_more (length part) c.read-last.result.got c.read-last.ensures.moved in
     let fits : more ≤ length part = omega (arith, c.moved-more.ensures) in
-    let (within, reached) = goes_on (length (put_mid done k buf part)) done more c.read-last.result (omega arith) (omega arith) (omega (arith, c.read-last.ensures.asked_value)) c.moved-more.ensures in
+    let asked = c.read-last.ensures.asked_value in
+    let (within, reached) =
+    goes_on (length (put_mid done k buf part)) done more c.read-last.result (omega arith) (omega arith) (omega (arith, asked))
+    c.moved-more.ensures in
     let front = front-put_mid done k more buf part c.loop-done.invariant.within fits in
     record {
       same_length = kept ∙ c.loop-done.invariant.same_length;

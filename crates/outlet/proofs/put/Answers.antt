@@ -20,7 +20,9 @@ loop-done-preserved g c =
     let long = mid_len done (length buf) buf (le_refl (length buf)) in
     let most : moved_of c.write-last.result.got ≤ length (mid_of done k buf) = no_more _ c.write-last.result.got c.write-last.ensures.moved in
     let fits : more ≤ k = omega (arith, c.moved-more.ensures) in
-    let (within, reached) = goes_on (length buf) done more c.write-last.result (omega arith) (omega (arith, c.write-last.ensures.asked_value)) (omega (arith, c.write-last.ensures.asked_value)) c.moved-more.ensures in
+    let asked = c.write-last.ensures.asked_value in
+    let (within, reached) =
+    goes_on (length buf) done more c.write-last.result (omega arith) (omega (arith, asked)) (omega (arith, asked)) c.moved-more.ensures in
     record {
       within = within;
       reached = reached;

@@ -10,5 +10,7 @@ returns g c =
     let whole = cut_whole c.args.count (omega arith) c.requires line.ensures in
     record {
       handed = wrote line.result whole c.put.ensures.puts line.ensures.counts;
-      bytes = subst (λ t. Appends (g.W.Write.contents c.args.output.now) (g.W.Write.contents c.put.new.writer) (take c.put.result.count t)) whole c.put.ensures.bytes;
+      bytes =
+          subst (λ t. Appends (g.W.Write.contents c.args.output.now) (g.W.Write.contents c.put.new.writer) (take c.put.result.count t)) whole
+          c.put.ensures.bytes;
     }

@@ -10,12 +10,12 @@ loop-count-init g c = record {
   out_stays = search rules;
   goes_on = search rules;
   whole = search rules;
-  blocks = no_blocks (g.W.Write.contents c.args.to.now);
+  blocks = no_blocks (g.W.Write.contents c.args.ports.now.to);
 }
 
 pub returns-in_default-clause-wrote : goal.returns-in_default-clause-wrote
 returns-in_default-clause-wrote g c =
-    ended (g.W.Write.contents c.args.to.now) (g.W.Write.contents c.loop-count.to) (g.W.Write.contents c.turn-turned.new.to)
+    ended (g.W.Write.contents c.args.ports.now.to) (g.W.Write.contents c.loop-count.ports.to) (g.W.Write.contents c.turn-turned.new.ports.to)
     (g.W.Write.contents c.settled-ending.new.output) c.loop-count.invariant.blocks c.turn-turned.ensures.turned c.settled-ending.ensures.settled
     c.turn-turned.ensures.written c.settled-ending.ensures.bytes c.in_default.not-Open
 
@@ -27,7 +27,7 @@ loop-count-preserved g c = record {
   goes_on = search rules;
   whole = search rules;
   blocks =
-      one_more (g.W.Write.contents c.args.to.now) (g.W.Write.contents c.loop-count.to) (g.W.Write.contents c.turn-turned.new.to)
+      one_more (g.W.Write.contents c.args.ports.now.to) (g.W.Write.contents c.loop-count.ports.to) (g.W.Write.contents c.turn-turned.new.ports.to)
       (g.W.Write.contents c.settled-ending.new.output) c.loop-count.invariant.blocks c.turn-turned.ensures.turned c.settled-ending.ensures.settled
       c.turn-turned.ensures.written c.settled-ending.ensures.bytes c.in-Open.is;
 }

@@ -11,7 +11,7 @@ invariant-loop-count g l = record {
   out_stays : length l.out ≡ length l.initial.out;
   goes_on : l.ending.how ≡ Open;
   whole : l.ending.taken.whole ≡ true;
-  blocks : Blocks (g.W.Write.contents l.initial.to) (g.W.Write.contents l.to) l.count;
+  blocks : Blocks (g.W.Write.contents l.initial.ports.to) (g.W.Write.contents l.ports.to) l.count;
 }
 
 abbrev pub decreases-loop-count : goal.decreases-loop-count

@@ -19,6 +19,6 @@ returns-clause-written g c =
     let problem = take c.in-Whole.n input in
     let text = block_printed problem output c.solve_with-solved.ensures c.judge_with-judged.ensures c.lines-end.ensures.out_after in
     subst
-    (λ t. Appends (g.W.Write.contents c.args.to.now) (g.W.Write.contents c.put-taken.new.writer) (take c.put-taken.result.count t))
+    (λ t. Appends (g.W.Write.contents c.args.ports.now.to) (g.W.Write.contents c.put-taken.new.writer) (take c.put-taken.result.count t))
     (text ∙ sym (ap (text_of input output) c.in-Whole.is))
     c.put-taken.ensures.bytes
