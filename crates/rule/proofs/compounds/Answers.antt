@@ -5,23 +5,23 @@ use mathlib.Core.List.{[], ◌∷◌}
 use denote.Enum.Declared.{tag_of}
 use Rattle.problem.specs.contracts.Form.{the_type}
 use Rattle.rule.specs.Rule.{both_units, both_atoms, both_abstractions, both_pairs, both_applications}
-use Rattle.rule.proofs.Ruling.{clashing}
+use Rattle.rule.proofs.Ruling.{clashing_among}
 use Rattle.rule.proofs.compounds.Goals as goal
 
 pub returns-in_default : goal.returns-in_default
-returns-in_default c = clashing _ _ _ _ 0 (1 ∷ 2 ∷ 3 ∷ 4 ∷ 5 ∷ []) tt (ap (tag_of the_type) c.in-Unit.is) (search rules)
+returns-in_default c = clashing_among _ _ _ _ 0 (1 ∷ 2 ∷ 3 ∷ 4 ∷ 5 ∷ []) tt (ap (tag_of the_type) c.in-Unit.is) (search rules)
 
 pub returns-in_default-w : goal.returns-in_default-w
-returns-in_default-w c = clashing _ _ _ _ 1 (0 ∷ 2 ∷ 3 ∷ 4 ∷ 5 ∷ []) tt (ap (tag_of the_type) c.in-Atom.is) (search rules)
+returns-in_default-w c = clashing_among _ _ _ _ 1 (0 ∷ 2 ∷ 3 ∷ 4 ∷ 5 ∷ []) tt (ap (tag_of the_type) c.in-Atom.is) (search rules)
 
 pub returns-in_default-w-2 : goal.returns-in_default-w-2
-returns-in_default-w-2 c = clashing _ _ _ _ 2 (0 ∷ 1 ∷ 3 ∷ 4 ∷ 5 ∷ []) tt (ap (tag_of the_type) c.in-Abstraction.is) (search rules)
+returns-in_default-w-2 c = clashing_among _ _ _ _ 2 (0 ∷ 1 ∷ 3 ∷ 4 ∷ 5 ∷ []) tt (ap (tag_of the_type) c.in-Abstraction.is) (search rules)
 
 pub returns-in_default-w-3 : goal.returns-in_default-w-3
-returns-in_default-w-3 c = clashing _ _ _ _ 3 (0 ∷ 1 ∷ 2 ∷ 4 ∷ 5 ∷ []) tt (ap (tag_of the_type) c.in-Pair.is) (search rules)
+returns-in_default-w-3 c = clashing_among _ _ _ _ 3 (0 ∷ 1 ∷ 2 ∷ 4 ∷ 5 ∷ []) tt (ap (tag_of the_type) c.in-Pair.is) (search rules)
 
 pub returns-in_default-w-4 : goal.returns-in_default-w-4
-returns-in_default-w-4 c = clashing _ _ _ _ 4 (0 ∷ 1 ∷ 2 ∷ 3 ∷ 5 ∷ []) tt (ap (tag_of the_type) c.in-Application.is) (search rules)
+returns-in_default-w-4 c = clashing_among _ _ _ _ 4 (0 ∷ 1 ∷ 2 ∷ 3 ∷ 5 ∷ []) tt (ap (tag_of the_type) c.in-Application.is) (search rules)
 
 pub returns-in-Unit-w : goal.returns-in-Unit-w
 returns-in-Unit-w c = rw (c.in-Unit.is, c.in-Unit-w.is) both_units
