@@ -51,7 +51,8 @@ pub fn judge_read(
         VariableSet::empty(),
         0,
     );
-    if ran.verdict.number == LIMIT {
+    let at_limit = ran.verdict.number == LIMIT;
+    if at_limit {
         return ran.verdict;
     }
     if ran.verdict.number != ACCEPTED {

@@ -23,18 +23,18 @@ judges p readable protected e t =
 pub run_read-ran-requires-clause-founded : goal.run_read-ran-requires-clause-founded
 run_read-ran-requires-clause-founded c = founded_none _ _ c.empty.ensures
 
-pub returns-then-ran-eq-LIMIT : goal.returns-then-ran-eq-LIMIT
-returns-then-ran-eq-LIMIT c =
+pub returns-then-at_limit : goal.returns-then-at_limit
+returns-then-at_limit c =
     let p : Problem = problem_of c.args.input.now in
     let run = judges p c.requires.0.standing.readable _ c.below-protected.ensures _ in
-    judged_limit _ (judged_run p) (c.run_read-ran.ensures.verdict ∙ ap end_given run) c.if-ran-eq-LIMIT.true
+    judged_limit _ (judged_run p) (c.run_read-ran.ensures.verdict ∙ ap end_given run) c.if-at_limit.true
 
 pub returns-then-ran-ne-ACCEPTED : goal.returns-then-ran-ne-ACCEPTED
 returns-then-ran-ne-ACCEPTED c =
     let p : Problem = problem_of c.args.input.now in
     let run = judges p c.requires.0.standing.readable _ c.below-protected.ensures _ in
     ap judgement_given c.give.ensures
-    ∙ judged_refused _ (judged_run p) (c.run_read-ran.ensures.verdict ∙ ap end_given run) c.if-ran-eq-LIMIT.false c.if-ran-ne-ACCEPTED.true
+    ∙ judged_refused _ (judged_run p) (c.run_read-ran.ensures.verdict ∙ ap end_given run) c.if-at_limit.false c.if-ran-ne-ACCEPTED.true
 
 pub returns : goal.returns
 returns c =
