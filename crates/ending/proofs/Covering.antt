@@ -8,7 +8,7 @@ use mathlib.Core.Bool.{Bool, true, false, not, ◌&&◌, cond, true≢false}
 use mathlib.Core.List.{List, Memᴰ}
 use lib.ListN.{get_or}
 use lib.Dec.{eqb}
-use borrow.Author.Tests.{eqb-true, eq-eqb}
+use borrow.Author.Tests.{eqb-true, eq-eqb, not-true, not-false}
 use Rattle.sets.specs.Bits.{member, difference}
 use Rattle.sets.proofs.Bits.{by_test, subset_member, member_subset}
 use Rattle.names.proofs.Equal.{by_eq}
@@ -49,12 +49,12 @@ module _ (bound : ℕ) (asked assumed : List ℕ) where
       unfolding covered_from
       one_more l = let e : n - x ≡ suc (n - (x + 1)) = omega arith in ap (covered_from bound asked assumed x) e
 
-      pub covered_fails : x < n → (t : Bool) → t ≡ covered_at bound asked assumed x → t ≡ false → false ≡ covered n bound asked assumed
-      covered_fails l t e q = sym (known ∙ one_more l ∙ rw (sym e ∙ q))
+      pub covered_fails : x < n → (t : Bool) → t ≡ covered_at bound asked assumed x → not t ≡ true → false ≡ covered n bound asked assumed
+      covered_fails l t e q = sym (known ∙ one_more l ∙ rw (sym e ∙ not-true t q))
 
-      pub covered_goes : x < n → (t : Bool) → t ≡ covered_at bound asked assumed x → t ≡ true → LeftAt (x + 1)
+      pub covered_goes : x < n → (t : Bool) → t ≡ covered_at bound asked assumed x → not t ≡ false → LeftAt (x + 1)
       covered_goes l t e q =
-          known ∙ one_more l ∙ rw (sym e ∙ q) (ap (λ (i : ℕ). covered_from bound asked assumed i (n - (x + 1))) (sym (add-one x)))
+          known ∙ one_more l ∙ rw (sym e ∙ not-false t q) (ap (λ (i : ℕ). covered_from bound asked assumed i (n - (x + 1))) (sym (add-one x)))
 
       pub covered_ends : n ≤ x → true ≡ covered n bound asked assumed
       unfolding covered_from

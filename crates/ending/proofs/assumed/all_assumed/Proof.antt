@@ -1,6 +1,8 @@
 -- `all_assumed` meets its contract: what is left to ask after x variables decides.
 use Prim.Native.Nat.{◌-◌, ◌≤◌}
 use native.Mathlib.Omega.{arith}
+use mathlib.Core.Path.{ap}
+use mathlib.Core.Bool.{not}
 use borrow.Author.Rules.{rules}
 use Rattle.demands.specs.Demands.{asked_of_variables}
 use Rattle.ending.proofs.Covering.{LeftAt, covered_start, covered_fails, covered_goes, covered_ends}
@@ -26,7 +28,7 @@ returns : tie.Need-returns-then-not-covers invariant_loop decreases_loop
 returns c =
     let at_covers = c.before in
     let in_loop = at_covers.before.before in
-    covered_fails _ _ _ _ _ in_loop.loop-x.invariant.1 (omega arith) _ at_covers.covers.ensures c.if-not-covers.true
+    covered_fails _ _ _ _ _ in_loop.loop-x.invariant.1 (omega arith) _ at_covers.covers.ensures (ap not c.if-not-covers.true)
 
 add_x : tie.Need-overflow_add-x invariant_loop decreases_loop
 add_x c = search rules
@@ -38,7 +40,7 @@ loop_again : tie.Need-loop-x-preserved invariant_loop decreases_loop
 loop_again c =
     let at_covers = c.before in
     let in_loop = at_covers.before.before in
-    (omega arith, covered_goes _ _ _ _ _ in_loop.loop-x.invariant.1 (omega arith) _ at_covers.covers.ensures c.if-not-covers.false)
+    (omega arith, covered_goes _ _ _ _ _ in_loop.loop-x.invariant.1 (omega arith) _ at_covers.covers.ensures (ap not c.if-not-covers.false))
 
 returns_2 : tie.Need-returns invariant_loop decreases_loop
 returns_2 c = let in_loop = c.before in covered_ends _ _ _ _ _ in_loop.loop-x.invariant.1 (omega arith)
