@@ -1,8 +1,8 @@
 -- What is handed out to be written is the text, whole, where there was room for it.
 use Prim.Native.Nat.{ℕ, ◌≤◌, ◌<◌}
 use native.Mathlib.Omega.{arith}
-use mathlib.Core.Path.{◌≡◌, ◌∙◌, sym, ap}
-use mathlib.Core.List.{List, ◌++◌}
+use mathlib.Core.Path.{◌≡◌, refl, ◌∙◌, sym, ap}
+use mathlib.Core.List.{List, [], ◌++◌}
 use lib.ListN.{length, take, length-append}
 use Rattle.outlet.specs.declared.Taken.{Taken}
 use Rattle.outlet.specs.Puts.{Puts}
@@ -17,6 +17,10 @@ pub wrote : {text out : List ℕ} {taken : Taken} (end : ℕ) → take end out �
 wrote {text} {out} {taken} end e p l =
     let n : length text ≡ end = sym (ap length e) ∙ sym l in
     record { stands = rw n e; puts = rw e at p }
+
+-- Nothing was to be written, and nothing was.
+pub quiet : {out : List ℕ} (taken : Taken) → Puts 0 taken → Handed [] out taken
+quiet taken p = record { stands = refl; puts = p }
 
 -- A cut's line is short because a refusal's line with the same number in it is.
 cut_length : (count : ℕ) → count < 18446744073709551616 → length (cut_line count) ≤ 67

@@ -124,11 +124,3 @@ module _ {input output out after : List ℕ} {count : ℕ} {turned : Outcome} {r
         last = subst (λ h. Last h (length so_far.problems) turn.0) (sym s.stands)
             (subst (λ n. Last (cond r.taken.whole (stands_of turned.reading.came) Unwritten) n turn.0) (sym so_far.many) turn.1.1);
       }
-
-pub all_whole : {old new : Option (List ℕ)} {count : ℕ} {h : How} → h ≡ Open → Blocks old new count → Wrote old new h
-all_whole {old} {new} e so_far = record {
-  problems = so_far.problems;
-  bytes = [];
-  written = subst (Appends old new) (sym (append-nil (blocks so_far.problems))) so_far.written;
-  last = rw e refl;
-}

@@ -1,6 +1,7 @@
 -- `stream::all` ends, since it counts the problems, and goes on only after a writing that was whole.
-use Rattle.std.proofs.Common.{◌≡◌, ◌-◌, true, length}
+use Rattle.std.proofs.Common.{◌≡◌, ◌-◌, length}
 use Rattle.standing.specs.declared.How.TheVariants.{Open}
+use Rattle.stream.proofs.Turning.{Gone}
 use Rattle.stream.proofs.Writings.{Blocks}
 use Rattle.stream.proofs.all.Given as goal
 
@@ -10,7 +11,7 @@ invariant-loop-count g l = record {
   output_stays : length l.output ≡ length l.initial.output;
   out_stays : length l.out ≡ length l.initial.out;
   goes_on : l.ending.how ≡ Open;
-  whole : l.ending.taken.whole ≡ true;
+  gone : Gone l.count l.out l.ending.taken;
   blocks : Blocks (g.W.Write.contents l.initial.ports.to) (g.W.Write.contents l.ports.to) l.count;
 }
 
