@@ -304,7 +304,8 @@ onto P m b h =
     )
 
 -- An entry stands at its place, and nowhere before.
-place_from_holds : (i : ℕ) (P : Table) (a d : ℕ) → a < length P → (k : ℕ) × ((place_from i (get_or P a d) P ≡ i + k) × ((k ≤ a) × (get_or P k d ≡ get_or P a d)))
+place_from_holds : (i : ℕ) (P : Table) (a d : ℕ) → a < length P
+    → (k : ℕ) × ((place_from i (get_or P a d) P ≡ i + k) × ((k ≤ a) × (get_or P k d ≡ get_or P a d)))
 place_from_holds i [] a d h = absurd (omega arith)
 place_from_holds i (b ∷ P) zero d h = (0, (rw (eq-eqb b b refl) (omega arith), (omega arith, refl)))
 place_from_holds i (b ∷ P) (suc a) d h =

@@ -3,4 +3,6 @@ use Rattle.cheesetrestle.proofs.Giving.{solved_fits}
 use Rattle.cheesetrestle.proofs.cheesetrestle_solve_with.Goals as goal
 
 pub joined-requires : goal.joined-requires
-joined-requires c = solved_fits c.args.input.now c.args.output.now c.solve_with-given.new.output c.solve_with-given.result c.solve_with-given.ensures (λ i. (c.type_inv.input i).fits)
+joined-requires c =
+    let solved = c.solve_with-given in
+    solved_fits c.args.input.now c.args.output.now solved.new.output solved.result solved.ensures (λ i. (c.type_inv.input i).fits)
