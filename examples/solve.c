@@ -5,8 +5,8 @@
  * that are refused, and one that its room is too small for.
  *
  *   (cd crates/cheesetrestle && rt lib)
- *   cc -Iinclude -o solve-c examples/solve.c crates/cheesetrestle/out/libcheesetrestle.a
- *   ./solve-c
+ *   cc -Iinclude -o crates/cheesetrestle/out/solve-c examples/solve.c crates/cheesetrestle/out/libcheesetrestle.a
+ *   crates/cheesetrestle/out/solve-c
  *
  * Or, once tools/install has installed it:
  *

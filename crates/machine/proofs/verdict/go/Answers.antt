@@ -24,7 +24,7 @@ top-e-requires c =
 pub returns-then-limit-steps : goal.returns-then-limit-steps
 returns-then-limit-steps c =
     going_limit c.requires.footing (c.go-went.ensures.going _ _ c.loop-state.invariant) c.if-state-eq0.false c.top-e.ensures
-    c.if-limit-steps.true c.give-v-then-limit-steps.ensures
+    (omega (arith, c.if-limit-steps.true)) c.give-v-then-limit-steps.ensures
 
 -- ---- a step: it refuses, or the loop goes on
 
