@@ -1,4 +1,4 @@
-// What a program tells on standard error. A program has no exit status, and the script that starts it goes by these lines: nothing, `refused`, `refused`
+// What a program tells on standard error. A program ends with 0 whatever came, and the script that starts it goes by these lines: nothing, `refused`, `refused`
 // and `text`, `cut`, or why the input could not be read or the output not be written. Of the first four the contracts say what is written to a writer
 // that knows what it holds; that a process's standard error takes a line, and the words for why something failed, are tested and not proved.
 #![tactic(auto)]

@@ -148,7 +148,7 @@ fn all<R: Read, W: Write, C: Clock>(
     ending
 }
 
-// What whoever started the program has to know, since it has no exit status. That `main` tells what `all` gives back is tested and not proved.
+// What whoever started the program has to know, since it ends with 0 whatever came. That `main` tells what `all` gives back is tested and not proved.
 fn tell<E: Write, C: Clock>(errors: &mut E, clock: &C, ending: Ending) {
     match ending.how {
         How::Open => {}
