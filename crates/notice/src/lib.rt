@@ -9,6 +9,7 @@ ghost use Rattle.notice.specs.Notices.{plain, in_comment, looks, is_text, no_pro
 ghost use Rattle.notice.specs.Told.{said, cut_said, Tells};
 
 use descriptor::Answer;
+use numbers::Given;
 use std::fmt::InlineText;
 use std::io;
 use std::io::Write;
@@ -85,25 +86,20 @@ fn is_text(input: &[u8]) -> bool
 }
 
 // Whether a problem that is no problem from its first byte on is refused so.
-fn is_no_problem(number: u8, place: usize) -> bool
-    ensures { result ≡ no_problem number place }
+fn is_no_problem(given: Given) -> bool
+    ensures { result ≡ no_problem given.number given.place }
 {
-    if place != 0 {
-        return false;
-    }
-    if number == 2 {
-        return true;
-    }
-    number == 3
+    given.place == 0 && matches!(given.number, 2 | 3)
 }
 
-pub fn of(number: u8, place: usize, input: &[u8]) -> Notice
-    ensures { result ≡ notice_of number place input.now }
+// Of any number and place, also such as the table has not.
+pub fn of(given: Given, input: &[u8]) -> Notice
+    ensures { result ≡ notice_of given.number given.place input.now }
 {
-    if number == 0 {
+    if given.number == 0 {
         return Notice::Nothing;
     }
-    if !is_no_problem(number, place) {
+    if !is_no_problem(given) {
         return Notice::Refused;
     }
     if is_text(input) {

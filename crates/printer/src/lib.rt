@@ -12,6 +12,7 @@ ghost use Rattle.printer.specs.Kinds.{begins, kind_of};
 
 use field::AtFront;
 use names::{Atom, NodeId, Variable};
+use numbers::Given;
 
 fn put_byte(out: &mut [u8], at: usize, b: u8) -> usize
     ensures { Placed out.old at (b ∷ []) result out.new }
@@ -79,12 +80,12 @@ fn put_accepted(out: &mut [u8], at: usize, steps: u32) -> usize
     put(out, b, b"\n")
 }
 
-fn put_refused(out: &mut [u8], at: usize, number: u8, place: usize) -> usize
-    ensures { Placed out.old at (refused_line number place) result out.new }
+fn put_refused(out: &mut [u8], at: usize, given: Given) -> usize
+    ensures { Placed out.old at (refused_line given.number given.place) result out.new }
 {
     let a = put(out, at, b"refused ");
-    let b = put_decimal(out, a, number as usize);
-    let c = put_spaced(out, b, place);
+    let b = put_decimal(out, a, usize::from(given.number));
+    let c = put_spaced(out, b, given.place);
     put(out, c, b"\n")
 }
 
@@ -173,27 +174,27 @@ fn put_answer(out: &mut [u8], at: usize, answer: &[u8]) -> usize
     }
 }
 
-// The solver's lines, from what it gives back: the number, the place and the lent output.
+// The solver's lines, from what it gives back, with the lent output: any number and place, also such as the table has not.
 #[tactic(auto, unfolding(crate::specs::Lines::solver_lines))]
-pub fn solver_lines(out: &mut [u8], at: usize, number: u8, place: usize, output: &[u8]) -> usize
-    ensures { Placed out.old at (solver_lines number place output.now) result out.new }
+pub fn solver_lines(out: &mut [u8], at: usize, given: Given, output: &[u8]) -> usize
+    ensures { Placed out.old at (solver_lines given.number given.place output.now) result out.new }
 {
-    if number != 0 {
-        return put_refused(out, at, number, place);
+    if given.number != 0 {
+        return put_refused(out, at, given);
     }
-    if place < output.len() {
-        return put_answer(out, at, &output[..place]);
+    if given.place < output.len() {
+        return put_answer(out, at, &output[..given.place]);
     }
     put_answer(out, at, output)
 }
 
 // The judge's line.
 #[tactic(auto, unfolding(crate::specs::Lines::judge_line))]
-pub fn judge_line(out: &mut [u8], at: usize, number: u8, place: usize) -> usize
-    ensures { Placed out.old at (judge_line number place) result out.new }
+pub fn judge_line(out: &mut [u8], at: usize, given: Given) -> usize
+    ensures { Placed out.old at (judge_line given.number given.place) result out.new }
 {
-    if number != 0 {
-        return put_refused(out, at, number, place);
+    if given.number != 0 {
+        return put_refused(out, at, given);
     }
     put(out, at, b"holds\n")
 }
@@ -202,16 +203,14 @@ pub fn judge_line(out: &mut [u8], at: usize, number: u8, place: usize) -> usize
 pub fn problem_lines(
     out: &mut [u8],
     at: usize,
-    number: u8,
-    place: usize,
+    solved: Given,
     output: &[u8],
-    judged: u8,
-    spot: usize,
+    judged: Given,
 ) -> usize
-    ensures { Placed out.old at (problem_lines number place output.now judged spot) result out.new }
+    ensures { Placed out.old at (problem_lines solved.number solved.place output.now judged.number judged.place) result out.new }
 {
-    let a = solver_lines(out, at, number, place, output);
-    let b = judge_line(out, a, judged, spot);
+    let a = solver_lines(out, at, solved, output);
+    let b = judge_line(out, a, judged);
     put(out, b, b"\n")
 }
 

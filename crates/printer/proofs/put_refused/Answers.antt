@@ -5,4 +5,4 @@ use Rattle.printer.proofs.put_refused.Goals as goal
 
 pub returns : goal.returns
 unfolding refused_line
-returns c = c.put-a.ensures then c.put_decimal-b.ensures then c.put_spaced-c.ensures then c.put.ensures
+returns c = c.put-a.ensures then rw c.from.ensures at c.put_decimal-b.ensures then c.put_spaced-c.ensures then c.put.ensures
