@@ -9,12 +9,17 @@ use sets::VariableSet;
 pub mod keep; // keep.rt: what the reader leaves in the tables
 pub mod look; // look.rt: nodes, equations and freshness fields, from the bytes
 
+// How many equations and freshness fields there can be (document 01, "The problem in bytes"); names has the same of nodes.
+pub const MOST_EQUATIONS: usize = 64;
+
+pub const MOST_FRESHNESS: usize = 64;
+
 // The equations stand behind the nodes, and the freshness fields behind the equations.
 pub const EQUATIONS: usize = MOST_NODES;
 
-pub const FRESHNESS: usize = EQUATIONS + 64;
+pub const FRESHNESS: usize = EQUATIONS + MOST_EQUATIONS;
 
-const FIELDS: usize = FRESHNESS + 64;
+const FIELDS: usize = FRESHNESS + MOST_FRESHNESS;
 
 // Of each field its first eight bytes as one number (field::word); of a suspension the last two are its offset.
 pub type Places = [u64; FIELDS];

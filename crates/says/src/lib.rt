@@ -1,21 +1,15 @@
-// What one whole field after the head says, or the number of its fault. The tests stand in the order of document 01: 4, 5, 6, 7.
+// What one whole field after the head says, or why it is refused. The tests stand in the order of document 01: 4, 5, 6, 7.
 #![tactic(auto)]
 
-ghost use Rattle.std.specs.Prelude.{◌≡◌};
-ghost use Rattle.says.specs.Told.{below, said_of, sized, fault_by};
+ghost use Rattle.std.specs.Prelude.{◌≡◌, ◌≢◌, ◌<◌, ◌≤◌, length, MatchResult};
+ghost use Rattle.says.specs.Told.{below, said_of, sized};
 
-use names::{Atom, Variable};
-use numbers::{NOT_THERE, TOO_MANY, UNKNOWN_TAG, WRONG_LENGTH};
-
-// "At most 512 nodes, 64 equations and 64 freshness fields".
-const MOST_NODES: u16 = 512;
-
-const MOST_EQUATIONS: u8 = 64;
-
-const MOST_FRESHNESS: u8 = 64;
+use names::{Atom, MOST_NODES, NodeId, Variable};
+use numbers::Reason;
+use problem::{MOST_EQUATIONS, MOST_FRESHNESS};
 
 // How many there are so far: all that decides whether a field is at fault.
-#[derive(Clone, Copy)]
+#[derive(Clone, Copy, PartialEq, Eq)]
 pub struct Sizes {
     pub atoms: u8,
     pub variables: u8,
@@ -24,97 +18,117 @@ pub struct Sizes {
     pub freshness: u8,
 }
 
-#[derive(Clone, Copy)]
+#[derive(Clone, Copy, PartialEq, Eq)]
 pub enum Said {
     Node,
     Equation,
     Freshness,
     Assumption(Atom, Variable),
     Protection(Variable),
-    Fault(u8),
+}
+
+// One test of a field each, with the row of document 01's table that stands for it: 5, 6, and three times 7.
+fn has_length(b: &[u8], n: usize) -> Result<(), Reason>
+    ensures { MatchResult result (λ _. length b.now ≡ n)
+        (λ r. (length b.now ≢ n) × (r ≡ Reason.WrongLength)) }
+{
+    if b.len() != n {
+        return Err(Reason::WrongLength);
+    }
+    Ok(())
+}
+
+fn room_after(there: usize, most: usize) -> Result<(), Reason>
+    ensures { MatchResult result (λ _. there < most)
+        (λ r. (most ≤ there) × (r ≡ Reason.TooMany)) }
+{
+    if there >= most {
+        return Err(Reason::TooMany);
+    }
+    Ok(())
+}
+
+impl Sizes {
+    fn atom(self, a: u8) -> Result<Atom, Reason>
+        ensures { MatchResult result (λ x. (x ≡ record { 0 = a }) × (a < self.atoms))
+            (λ r. (self.atoms ≤ a) × (r ≡ Reason.NotThere)) }
+    {
+        if a >= self.atoms {
+            return Err(Reason::NotThere);
+        }
+        Ok(Atom(a))
+    }
+
+    fn variable(self, x: u8) -> Result<Variable, Reason>
+        ensures { MatchResult result (λ v. (v ≡ record { 0 = x }) × (x < self.variables))
+            (λ r. (self.variables ≤ x) × (r ≡ Reason.NotThere)) }
+    {
+        if x >= self.variables {
+            return Err(Reason::NotThere);
+        }
+        Ok(Variable(x))
+    }
+
+    fn node(self, n: u16) -> Result<NodeId, Reason>
+        ensures { MatchResult result (λ v. (v ≡ record { 0 = n }) × (n < self.nodes))
+            (λ r. (self.nodes ≤ n) × (r ≡ Reason.NotThere)) }
+    {
+        if n >= self.nodes {
+            return Err(Reason::NotThere);
+        }
+        Ok(NodeId(n))
+    }
 }
 
 #[tactic(auto, using(crate::proofs::ByTag::unit_said))]
-fn unit(b: &[u8], z: Sizes) -> Said
+fn unit(b: &[u8], z: Sizes) -> Result<Said, Reason>
     ensures { result ≡ said_of (sized z) 0x10 b.now }
 {
-    if b.len() != 0 {
-        return Said::Fault(WRONG_LENGTH);
-    }
-    if z.nodes >= MOST_NODES {
-        return Said::Fault(TOO_MANY);
-    }
-    Said::Node
+    has_length(b, 0)?;
+    room_after(usize::from(z.nodes), MOST_NODES)?;
+    Ok(Said::Node)
 }
 
 #[tactic(auto, using(crate::proofs::ByTag::atom_said))]
-fn atom(b: &[u8], z: Sizes) -> Said
+fn atom(b: &[u8], z: Sizes) -> Result<Said, Reason>
     ensures { result ≡ said_of (sized z) 0x11 b.now }
 {
-    if b.len() != 1 {
-        return Said::Fault(WRONG_LENGTH);
-    }
-    if z.nodes >= MOST_NODES {
-        return Said::Fault(TOO_MANY);
-    }
-    if b[0] >= z.atoms {
-        return Said::Fault(NOT_THERE);
-    }
-    Said::Node
+    has_length(b, 1)?;
+    room_after(usize::from(z.nodes), MOST_NODES)?;
+    z.atom(b[0])?;
+    Ok(Said::Node)
 }
 
 #[tactic(auto, using(crate::proofs::ByTag::abstraction_said))]
-fn abstraction(b: &[u8], z: Sizes) -> Said
+fn abstraction(b: &[u8], z: Sizes) -> Result<Said, Reason>
     ensures { result ≡ said_of (sized z) 0x12 b.now }
 {
-    if b.len() != 3 {
-        return Said::Fault(WRONG_LENGTH);
-    }
-    if z.nodes >= MOST_NODES {
-        return Said::Fault(TOO_MANY);
-    }
-    if b[0] >= z.atoms {
-        return Said::Fault(NOT_THERE);
-    }
-    if field::two(b, 1) >= z.nodes {
-        return Said::Fault(NOT_THERE);
-    }
-    Said::Node
+    has_length(b, 3)?;
+    room_after(usize::from(z.nodes), MOST_NODES)?;
+    z.atom(b[0])?;
+    z.node(field::two(b, 1))?;
+    Ok(Said::Node)
 }
 
 #[tactic(auto, using(crate::proofs::ByTag::pair_said))]
-fn pair(b: &[u8], z: Sizes) -> Said
+fn pair(b: &[u8], z: Sizes) -> Result<Said, Reason>
     ensures { result ≡ said_of (sized z) 0x13 b.now }
 {
-    if b.len() != 4 {
-        return Said::Fault(WRONG_LENGTH);
-    }
-    if z.nodes >= MOST_NODES {
-        return Said::Fault(TOO_MANY);
-    }
-    if field::two(b, 0) >= z.nodes {
-        return Said::Fault(NOT_THERE);
-    }
-    if field::two(b, 2) >= z.nodes {
-        return Said::Fault(NOT_THERE);
-    }
-    Said::Node
+    has_length(b, 4)?;
+    room_after(usize::from(z.nodes), MOST_NODES)?;
+    z.node(field::two(b, 0))?;
+    z.node(field::two(b, 2))?;
+    Ok(Said::Node)
 }
 
 #[tactic(auto, using(crate::proofs::ByTag::application_said))]
-fn application(b: &[u8], z: Sizes) -> Said
+fn application(b: &[u8], z: Sizes) -> Result<Said, Reason>
     ensures { result ≡ said_of (sized z) 0x14 b.now }
 {
-    if b.len() != 4 {
-        return Said::Fault(WRONG_LENGTH);
-    }
-    if z.nodes >= MOST_NODES {
-        return Said::Fault(TOO_MANY);
-    }
-    if field::two(b, 2) >= z.nodes {
-        return Said::Fault(NOT_THERE);
-    }
-    Said::Node
+    has_length(b, 4)?;
+    room_after(usize::from(z.nodes), MOST_NODES)?;
+    z.node(field::two(b, 2))?;
+    Ok(Said::Node)
 }
 
 // Every byte names an atom. The greatest is looked for with no early end, so that many are taken at once.
@@ -122,110 +136,70 @@ pub fn all_below(b: &[u8], atoms: u8) -> bool
     ensures { result ≡ below atoms b.now }
 {
     let mut most: u8 = 0;
-    let mut i: usize = 0;
-    while i < b.len() {
-        if b[i] > most {
-            most = b[i];
-        }
-        i += 1;
+    for a in b {
+        most = most.max(*a);
     }
-    if b.len() == 0 {
-        return true;
-    }
-    most < atoms
+    b.is_empty() || most < atoms
 }
 
 #[tactic(auto, using(crate::proofs::ByTag::suspension_even, crate::proofs::ByTag::suspension_long, crate::proofs::ByTag::suspension_said))]
-fn suspension(b: &[u8], z: Sizes) -> Said
+fn suspension(b: &[u8], z: Sizes) -> Result<Said, Reason>
     ensures { result ≡ said_of (sized z) 0x15 b.now }
 {
-    if b.len() % 2 != 1 {
-        return Said::Fault(WRONG_LENGTH);
+    if b.len() % 2 != 1 || b.len() > 65 {
+        return Err(Reason::WrongLength);
     }
-    if b.len() > 65 {
-        return Said::Fault(WRONG_LENGTH);
-    }
-    if z.nodes >= MOST_NODES {
-        return Said::Fault(TOO_MANY);
-    }
-    if b[0] >= z.variables {
-        return Said::Fault(NOT_THERE);
-    }
+    room_after(usize::from(z.nodes), MOST_NODES)?;
+    z.variable(b[0])?;
     if all_below(&b[1..], z.atoms) {
-        return Said::Node;
+        return Ok(Said::Node);
     }
-    Said::Fault(NOT_THERE)
+    Err(Reason::NotThere)
 }
 
 #[tactic(auto, using(crate::proofs::ByTag::equation_said))]
-fn equation(b: &[u8], z: Sizes) -> Said
+fn equation(b: &[u8], z: Sizes) -> Result<Said, Reason>
     ensures { result ≡ said_of (sized z) 0x20 b.now }
 {
-    if b.len() != 4 {
-        return Said::Fault(WRONG_LENGTH);
-    }
-    if z.equations >= MOST_EQUATIONS {
-        return Said::Fault(TOO_MANY);
-    }
-    if field::two(b, 0) >= z.nodes {
-        return Said::Fault(NOT_THERE);
-    }
-    if field::two(b, 2) >= z.nodes {
-        return Said::Fault(NOT_THERE);
-    }
-    Said::Equation
+    has_length(b, 4)?;
+    room_after(usize::from(z.equations), MOST_EQUATIONS)?;
+    z.node(field::two(b, 0))?;
+    z.node(field::two(b, 2))?;
+    Ok(Said::Equation)
 }
 
 #[tactic(auto, using(crate::proofs::ByTag::freshness_said))]
-fn freshness(b: &[u8], z: Sizes) -> Said
+fn freshness(b: &[u8], z: Sizes) -> Result<Said, Reason>
     ensures { result ≡ said_of (sized z) 0x21 b.now }
 {
-    if b.len() != 3 {
-        return Said::Fault(WRONG_LENGTH);
-    }
-    if z.freshness >= MOST_FRESHNESS {
-        return Said::Fault(TOO_MANY);
-    }
-    if b[0] >= z.atoms {
-        return Said::Fault(NOT_THERE);
-    }
-    if field::two(b, 1) >= z.nodes {
-        return Said::Fault(NOT_THERE);
-    }
-    Said::Freshness
+    has_length(b, 3)?;
+    room_after(usize::from(z.freshness), MOST_FRESHNESS)?;
+    z.atom(b[0])?;
+    z.node(field::two(b, 1))?;
+    Ok(Said::Freshness)
 }
 
 #[tactic(auto, using(crate::proofs::ByTag::assumption_said))]
-fn assumption(b: &[u8], z: Sizes) -> Said
+fn assumption(b: &[u8], z: Sizes) -> Result<Said, Reason>
     ensures { result ≡ said_of (sized z) 0x22 b.now }
 {
-    if b.len() != 2 {
-        return Said::Fault(WRONG_LENGTH);
-    }
-    if b[0] >= z.atoms {
-        return Said::Fault(NOT_THERE);
-    }
-    if b[1] >= z.variables {
-        return Said::Fault(NOT_THERE);
-    }
-    Said::Assumption(Atom(b[0]), Variable(b[1]))
+    has_length(b, 2)?;
+    let a = z.atom(b[0])?;
+    let x = z.variable(b[1])?;
+    Ok(Said::Assumption(a, x))
 }
 
 #[tactic(auto, using(crate::proofs::ByTag::protection_said))]
-fn protection(b: &[u8], z: Sizes) -> Said
+fn protection(b: &[u8], z: Sizes) -> Result<Said, Reason>
     ensures { result ≡ said_of (sized z) 0x30 b.now }
 {
-    if b.len() != 1 {
-        return Said::Fault(WRONG_LENGTH);
-    }
-    if b[0] >= z.variables {
-        return Said::Fault(NOT_THERE);
-    }
-    Said::Protection(Variable(b[0]))
+    has_length(b, 1)?;
+    let x = z.variable(b[0])?;
+    Ok(Said::Protection(x))
 }
 
 #[tactic(auto, using(crate::proofs::Saying::no_base_tag), unfolding(crate::specs::Told::said_of, problem::specs::Reader::fault))]
-pub fn field_says(tag: u8, b: &[u8], z: Sizes) -> Said
+pub fn field_says(tag: u8, b: &[u8], z: Sizes) -> Result<Said, Reason>
     ensures { result ≡ said_of (sized z) tag b.now }
 {
     match tag {
@@ -239,20 +213,6 @@ pub fn field_says(tag: u8, b: &[u8], z: Sizes) -> Said
         0x21 => freshness(b, z),
         0x22 => assumption(b, z),
         0x30 => protection(b, z),
-        _ => Said::Fault(UNKNOWN_TAG),
-    }
-}
-
-// The number of the fault, or 0.
-pub fn fault_of(said: Said) -> u8
-    ensures { result ≡ fault_by said }
-{
-    match said {
-        Said::Node => 0,
-        Said::Equation => 0,
-        Said::Freshness => 0,
-        Said::Assumption(_, _) => 0,
-        Said::Protection(_) => 0,
-        Said::Fault(k) => k,
+        _ => Err(Reason::UnknownTag),
     }
 }
