@@ -3,6 +3,8 @@
 // stay in the input.
 #![tactic(auto)]
 
+ghost use Rattle.field.specs.Field.{Bytes};
+
 use names::{Atom, MOST_NODES, MOST_VARIABLES, NodeId, Variable};
 use sets::VariableSet;
 
@@ -25,6 +27,14 @@ const FIELDS: usize = FRESHNESS + MOST_FRESHNESS;
 pub type Places = [u64; FIELDS];
 
 pub const EMPTY_PLACES: Places = [0; FIELDS];
+
+// An input that was read: its bytes, and the table that says what stands where. Everything after the reader looks at the two together (`look`).
+#[derive(Clone, Copy)]
+pub struct Input<'a> {
+    pub bytes: &'a [u8],
+    pub places: &'a Places,
+    ghost are_bytes: { Bytes bytes.now },
+}
 
 // By variable the atoms that are assumed fresh for it.
 pub type Assumed = [u32; MOST_VARIABLES];

@@ -6,7 +6,7 @@ ghost use Rattle.problem.specs.Held.{assumed_for, node_word};
 ghost use Rattle.problem.specs.Look.{NodeStands, form_in, form_now, form_told, bare_in, bare_of, Suspended, own_swaps};
 ghost use Rattle.problem.specs.Look.{EquationStands, equation_now, equation_told, FreshnessStands, freshness_now, freshness_told};
 
-use crate::{Assumed, EQUATIONS, FRESHNESS, Form, Places};
+use crate::{Assumed, EQUATIONS, FRESHNESS, Form, Input, Places};
 use field::word;
 use names::{Atom, NodeId, Variable};
 use sets::AtomSet;
@@ -40,14 +40,6 @@ pub fn form_at(places: &Places, n: NodeId) -> Form
     }
 }
 
-// The form that a node of the input has.
-pub fn form_of(s: &[u8], places: &Places, n: NodeId) -> Form
-    requires { NodeStands s.now places.now n.0 }
-    ensures { result ≡ form_told (form_now s.now n.0) }
-{
-    form_at(places, n)
-}
-
 // The variable that the table has for a suspension without swaps, whatever the input; for any other node 255, which is no variable.
 #[tactic(auto, unfolding(crate::specs::Look::bare_in))]
 pub fn bare_at(places: &Places, n: NodeId) -> Variable
@@ -61,56 +53,62 @@ pub fn bare_at(places: &Places, n: NodeId) -> Variable
     Variable(255)
 }
 
-// The variable of a suspension without swaps; for any other node 255.
-pub fn bare(s: &[u8], places: &Places, n: NodeId) -> Variable
-    requires { NodeStands s.now places.now n.0 }
-    ensures { result.0 ≡ bare_of (form_now s.now n.0) }
-{
-    bare_at(places, n)
-}
-
-// The swaps of a suspension, two bytes each, as a part of the input.
-pub fn swaps_of<'a>(s: &'a [u8], places: &Places, n: NodeId) -> &'a [u8]
-    requires { NodeStands s.now places.now n.0 × Suspended (form_now s.now n.0) }
-    ensures { swaps_in result.now ≡ own_swaps (form_now s.now n.0) }
-{
-    let w = places[n.0 as usize];
-    let at = (w % 65536) as usize;
-    let start = at + 4;
-    let end = at + 3 + word::length(w);
-    &s[start..end]
-}
-
-pub fn equation_at(s: &[u8], places: &Places, k: usize) -> Equation
-    requires { EquationStands s.now places.now k }
-    ensures { result ≡ equation_told (equation_now s.now k) }
-{
-    let w = places[EQUATIONS + k];
-    let left = word::first_two(w);
-    let right = word::last_two(w);
-    Equation {
-        left: NodeId(left),
-        right: NodeId(right),
-    }
-}
-
-pub fn freshness_at(s: &[u8], places: &Places, k: usize) -> Freshness
-    requires { FreshnessStands s.now places.now k }
-    ensures { result ≡ freshness_told (freshness_now s.now k) }
-{
-    let w = places[FRESHNESS + k];
-    let atom = word::first_byte(w);
-    let node = word::middle_two(w);
-    Freshness {
-        atom: Atom(atom),
-        node: NodeId(node),
-    }
-}
-
 // The atoms that are assumed fresh for a variable.
 pub fn assumed_for(assumed: &Assumed, x: Variable) -> AtomSet
     requires { x.0 < 64 }
     ensures { result.0 ≡ assumed_for assumed.now x.0 }
 {
     AtomSet(assumed[x.0 as usize])
+}
+
+impl<'a> Input<'a> {
+    // The form that a node of the input has.
+    pub fn form_of(&self, n: NodeId) -> Form
+        requires { NodeStands self.now.bytes.now self.now.places.now n.0 }
+        ensures { result ≡ form_told (form_now self.now.bytes.now n.0) }
+    {
+        form_at(self.places, n)
+    }
+
+    // The variable of a suspension without swaps; for any other node 255.
+    pub fn bare(&self, n: NodeId) -> Variable
+        requires { NodeStands self.now.bytes.now self.now.places.now n.0 }
+        ensures { result.0 ≡ bare_of (form_now self.now.bytes.now n.0) }
+    {
+        bare_at(self.places, n)
+    }
+
+    // The swaps of a suspension, two bytes each, as a part of the input.
+    pub fn swaps_of(&self, n: NodeId) -> &'a [u8]
+        requires { NodeStands self.now.bytes.now self.now.places.now n.0 × Suspended (form_now self.now.bytes.now n.0) }
+        ensures { swaps_in result.now ≡ own_swaps (form_now self.now.bytes.now n.0) }
+    {
+        let w = self.places[n.0 as usize];
+        let at = (w % 65536) as usize;
+        let start = at + 4;
+        let end = at + 3 + word::length(w);
+        &self.bytes[start..end]
+    }
+
+    pub fn equation_at(&self, k: usize) -> Equation
+        requires { EquationStands self.now.bytes.now self.now.places.now k }
+        ensures { result ≡ equation_told (equation_now self.now.bytes.now k) }
+    {
+        let w = self.places[EQUATIONS + k];
+        Equation {
+            left: NodeId(word::first_two(w)),
+            right: NodeId(word::last_two(w)),
+        }
+    }
+
+    pub fn freshness_at(&self, k: usize) -> Freshness
+        requires { FreshnessStands self.now.bytes.now self.now.places.now k }
+        ensures { result ≡ freshness_told (freshness_now self.now.bytes.now k) }
+    {
+        let w = self.places[FRESHNESS + k];
+        Freshness {
+            atom: Atom(word::first_byte(w)),
+            node: NodeId(word::middle_two(w)),
+        }
+    }
 }
