@@ -15,7 +15,7 @@ ghost use Rattle.answer.specs.Facts.{fact_set, facts_in, fact_bytes_of};
 use bindings::{Made, Values};
 use demands::Asked;
 use names::{Atom, Variable};
-use numbers::{ACCEPTED, Given, TOO_SHORT};
+use numbers::{Reason, Solved};
 use sets::{AtomSet, VariableSet};
 
 // How long the fields of an answer are (specs/Fields.antt): that of the steps, that of a binding before its images, that of a fact.
@@ -64,11 +64,9 @@ fn put_images(output: &mut [u8], at: usize, values: &Values, x: Variable, n: usi
     ensures { Wrote output.old at (images_of n values.now x.0) result output.new }
 {
     let mut end = at;
-    let mut i: usize = 0;
-    while i < n {
+    for i in 0..n {
         let a = bindings::image_of(values, n, x, Atom(i as u8));
         end = put(output, end, a.0);
-        i += 1;
     }
     end
 }
@@ -106,11 +104,9 @@ fn put_bindings(
         result output.new }
 {
     let mut end = at;
-    let mut i: usize = 0;
-    while i < k {
+    for i in 0..k {
         let x = bindings::variable_at(made, i);
         end = put_binding(output, end, made, values, x, atoms);
-        i += 1;
     }
     end
 }
@@ -162,12 +158,10 @@ fn put_facts(
         result output.new }
 {
     let mut end = at;
-    let mut x: usize = 0;
-    while x < variables {
+    for x in 0..variables {
         let variable = Variable(x as u8);
         let facts = fact_set(asked, bound, variable, atoms);
         end = put_facts_of(output, end, facts, variable);
-        x += 1;
     }
     end
 }
@@ -177,17 +171,15 @@ fn count_facts(asked: &Asked, bound: VariableSet, atoms: usize, variables: usize
     ensures { result ≡ length (facts_in atoms variables bound.0 (asked_of_variables asked.now)) }
 {
     let mut n: usize = 0;
-    let mut x: usize = 0;
-    while x < variables {
+    for x in 0..variables {
         let facts = fact_set(asked, bound, Variable(x as u8), atoms);
-        n += u32::count_ones(facts.0) as usize;
-        x += 1;
+        n += facts.0.count_ones() as usize;
     }
     n
 }
 
-// The answer of a run that accepted: `asked` has for each variable the atoms that must be fresh for it once all demands are resolved. 0 with the
-// answer's length; or 13 with the length wanted, and the output stays as it was.
+// The answer of a run that accepted: `asked` has for each variable the atoms that must be fresh for it once all demands are resolved. Gives the
+// answer's length; or refuses, with the length wanted, and the output stays as it was.
 pub fn write(
     output: &mut [u8],
     made: &Made,
@@ -198,7 +190,7 @@ pub fn write(
     bound: VariableSet,
     atoms: usize,
     variables: usize,
-) -> Given
+) -> Solved
     requires { Keeps made.now k bound.0 × (atoms ≤ 32) × (variables ≤ 64) }
     ensures { result_of result output.new ≡ written
         (answer_bytes steps (bindings_of atoms (binding_tables made.now values.now) k)
@@ -208,15 +200,9 @@ pub fn write(
     let facts = count_facts(asked, bound, atoms, variables);
     let wanted = STEPS + k * (BINDING + atoms) + FACT * facts;
     if output.len() < wanted {
-        return Given {
-            number: TOO_SHORT,
-            place: wanted,
-        };
+        return Err(numbers::refuse(Reason::TooShort, wanted));
     }
     let a = put_steps(output, 0, steps);
     let b = put_bindings(output, a, made, values, k, atoms);
-    Given {
-        number: ACCEPTED,
-        place: put_facts(output, b, asked, bound, atoms, variables),
-    }
+    Ok(put_facts(output, b, asked, bound, atoms, variables))
 }

@@ -1,0 +1,73 @@
+-- The length wanted is the answer's, so that an answer that fits is written whole, and of any other no byte.
+use Rattle.std.proofs.Common.{arith}
+use Rattle.bindings.specs.Bindings.{binding_tables, bindings_of}
+use Rattle.demands.specs.Demands.{asked_of_variables}
+use Rattle.run.proofs.Written.{length_fact_bytes}
+use Rattle.answer.specs.Facts.{facts_in}
+use Rattle.answer.proofs.Writing.{wrote_same, ◌then◌}
+use Rattle.answer.proofs.Fields.{answer_fields, length_steps_field}
+use Rattle.answer.proofs.Facts.{few_facts}
+use Rattle.answer.proofs.Answer.{bindings_few, length_bindings, length_answer, written_whole, written_short}
+use Rattle.answer.proofs.write.Goals as goal
+
+pub overflow_mul-wanted : goal.overflow_mul-wanted
+overflow_mul-wanted c =
+    let a = c.args in
+    omega (arith, bindings_few a.atoms (binding_tables a.made.now a.values.now) a.k a.bound.0 c.requires.0 c.requires.1)
+
+pub overflow_add-wanted-2 : goal.overflow_add-wanted-2
+overflow_add-wanted-2 c =
+    let a = c.args in
+    omega (arith, bindings_few a.atoms (binding_tables a.made.now a.values.now) a.k a.bound.0 c.requires.0 c.requires.1)
+
+pub overflow_mul-wanted-2 : goal.overflow_mul-wanted-2
+overflow_mul-wanted-2 c =
+    let a = c.args in
+    omega (arith, few_facts a.atoms a.variables a.bound.0 (asked_of_variables a.asked.now) c.requires.2)
+
+pub overflow_add-wanted-3 : goal.overflow_add-wanted-3
+overflow_add-wanted-3 c =
+    let a = c.args in
+    omega (
+      arith,
+      bindings_few a.atoms (binding_tables a.made.now a.values.now) a.k a.bound.0 c.requires.0 c.requires.1,
+      few_facts a.atoms a.variables a.bound.0 (asked_of_variables a.asked.now) c.requires.2,
+    )
+
+pub returns-then-output-wanted : goal.returns-then-output-wanted
+returns-then-output-wanted c =
+    let a = c.args in
+    let facts = facts_in a.atoms a.variables a.bound.0 (asked_of_variables a.asked.now) in
+    let wanted = length_answer a.atoms (binding_tables a.made.now a.values.now) a.k a.bound.0 c.requires.0 a.steps facts in
+    written_short _ _ _ c.refuse.ensures (omega (arith, wanted)) (omega (arith, wanted))
+
+pub put_bindings-b-requires : goal.put_bindings-b-requires
+put_bindings-b-requires c =
+    let a = c.args in (
+      (a.bound.0, c.requires.0),
+      c.requires.1,
+      omega (arith, length_steps_field a.steps, length_bindings a.atoms (binding_tables a.made.now a.values.now) a.k a.bound.0 c.requires.0),
+    )
+
+pub put_facts-requires : goal.put_facts-requires
+put_facts-requires c =
+    let a = c.args in
+    let facts = facts_in a.atoms a.variables a.bound.0 (asked_of_variables a.asked.now) in (
+      c.requires.2,
+      c.requires.1,
+      omega (
+        arith,
+        length_steps_field a.steps,
+        length_bindings a.atoms (binding_tables a.made.now a.values.now) a.k a.bound.0 c.requires.0,
+        length_fact_bytes facts,
+      ),
+    )
+
+pub returns : goal.returns
+returns c =
+    let a = c.args in
+    let bindings = bindings_of a.atoms (binding_tables a.made.now a.values.now) a.k in
+    let facts = facts_in a.atoms a.variables a.bound.0 (asked_of_variables a.asked.now) in
+    written_whole _ _ _ _
+    (wrote_same (answer_fields a.steps bindings facts) (c.put_steps-a.ensures then c.put_bindings-b.ensures then c.put_facts.ensures))
+    (omega (arith, length_answer a.atoms (binding_tables a.made.now a.values.now) a.k a.bound.0 c.requires.0 a.steps facts))
