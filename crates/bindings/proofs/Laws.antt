@@ -14,7 +14,7 @@ use lib.Dec.{eqb}
 use borrow.Author.Tests.{eq-eqb, ne_eqb}
 use Rattle.permutation.specs.declared.Permutation.{Permutation}
 use Rattle.permutation.specs.Table.{Table, image, tabulate, identity}
-use Rattle.permutation.specs.Store.{table, of_table}
+use Rattle.permutation.specs.Store.{table}
 use Rattle.names.proofs.Equal.{by_eq, by_lt}
 use Rattle.permutation.proofs.Table.{image_out, table_extensional, length_tabulate, image_tabulate, image_identity}
 use Rattle.permutation.proofs.Store.{length_table, image_table_out, tabulate_same, identity_tabulate}
@@ -25,9 +25,9 @@ use Rattle.rows.proofs.Rows.{images_in_kept, table_held}
 use Rattle.run.specs.Meaning.{Binding}
 use Rattle.run.specs.Run.{value_of}
 use Rattle.bindings.specs.declared.Value.{Value}
-use Rattle.bindings.specs.declared.Found.{Found}
 use Rattle.bindings.specs.Bindings.{order_in, variable_at, node_of, made_by, images_of, Bindings, binding_tables, binding_at, bindings_of, Keeps, side_of}
 use Rattle.bindings.specs.Bindings.{binding_of, put_in, with_binding, Added, found_at, value_in, LookedUp}
+use Rattle.std.specs.Prelude.{Some, None}
 
 -- ---- the set of bound variables
 
@@ -300,44 +300,33 @@ unfolding bindings_of
 value_of_set A t k bound h X =
     value_of_at A t (take k (order_in t.made)) X ∙ ap (λ (b : Bool). cond b (some (binding_at A t X).value) none) (sym (h.holds X))
 
-pub value_in_bound : (A : ℕ) (f : Found) → f.bound ≡ true → value_in A f ≡ some (side_of A f.value)
-unfolding value_in
-value_in_bound A f e = rw e
-
-pub value_in_unbound : (A : ℕ) (f : Found) → f.bound ≡ false → value_in A f ≡ none
-unfolding value_in
-value_in_unbound A f e = rw e
-
 -- What the code of `look_up` makes, of a bound variable and of another.
 module _ (t : Bindings) (bound X : ℕ) where
-  abbrev value_here : Found
-  value_here = record { bound = true; value = record { images = row_held (get_or t.values X []); node = record { 0 = node_of t.made X } } }
+  abbrev value_here : Value
+  value_here = record { images = row_held (get_or t.values X []); node = record { 0 = node_of t.made X } }
 
-  abbrev no_value : Found
-  no_value = record { bound = false; value = record { images = of_table []; node = record { 0 = 0 } } }
-
-  found_bound : member bound X ≡ true → found_at t bound X ≡ value_here
+  found_bound : member bound X ≡ true → found_at t bound X ≡ Some value_here
   unfolding found_at
   found_bound m = rw m
 
-  found_unbound : member bound X ≡ false → found_at t bound X ≡ no_value
+  found_unbound : member bound X ≡ false → found_at t bound X ≡ None
   unfolding found_at
   found_unbound m = rw m
 
-  pub looked_up_bound : (r : Found) → member bound X ≡ true → r ≡ value_here → length r.value.images.images ≡ 32 → LookedUp t bound X r
+  pub looked_up_bound : (v : Value) → member bound X ≡ true → v ≡ value_here → length v.images.images ≡ 32 → LookedUp t bound X (Some v)
   unfolding binding_at value_in side_of images_of
-  looked_up_bound r m e whole =
+  looked_up_bound v m e whole =
       let row = get_or t.values X [] in
       let whole_row : length (row_held row).images ≡ 32 = rw e at whole in
       let images : (A : ℕ) → A ≤ 32 → images_of A t.values X ≡ table A (row_held row) =
       λ A few. ap (λ (P : Table). tabulate A (image P)) (sym (table_held A row)) ∙ row_images A (row_held row) (omega arith) in
       record {
-        content = e ∙ sym (found_bound m);
+        content = rw e (sym (found_bound m));
         value = λ A few k h.
             value_of_set A t k bound h X ∙ rw (m, e) (ap (λ (P : Table). some (record { images = P; node = node_of t.made X })) (images A few));
       }
 
-  pub looked_up_unbound : (r : Found) → member bound X ≡ false → r ≡ no_value → LookedUp t bound X r
+  pub looked_up_unbound : member bound X ≡ false → LookedUp t bound X None
   unfolding value_in
-  looked_up_unbound r m e =
-      record { content = e ∙ sym (found_unbound m); value = λ A s k h. value_of_set A t k bound h X ∙ rw (m, e) }
+  looked_up_unbound m =
+      record { content = sym (found_unbound m); value = λ A s k h. value_of_set A t k bound h X ∙ rw m }
