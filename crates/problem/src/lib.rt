@@ -42,7 +42,7 @@ pub type Assumed = [u32; MOST_VARIABLES];
 pub const EMPTY_ASSUMED: Assumed = [0; MOST_VARIABLES];
 
 // A node's form. A suspension's swaps stay in the bytes: `look::swaps_of` hands them back as a part of the input.
-#[derive(Clone, Copy)]
+#[derive(Clone, Copy, PartialEq, Eq)]
 pub enum Form {
     Unit,
     Atom(Atom),

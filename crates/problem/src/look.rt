@@ -11,13 +11,13 @@ use field::word;
 use names::{Atom, NodeId, Variable};
 use sets::AtomSet;
 
-#[derive(Clone, Copy)]
+#[derive(Clone, Copy, PartialEq, Eq)]
 pub struct Equation {
     pub left: NodeId,
     pub right: NodeId,
 }
 
-#[derive(Clone, Copy)]
+#[derive(Clone, Copy, PartialEq, Eq)]
 pub struct Freshness {
     pub atom: Atom,
     pub node: NodeId,
@@ -29,7 +29,7 @@ pub fn form_at(places: &Places, n: NodeId) -> Form
     requires { n.0 < 512 }
     ensures { result ≡ form_in (node_word places.now n.0) }
 {
-    let w = places[n.0 as usize];
+    let w = places[usize::from(n.0)];
     match word::tag(w) {
         0x10 => Form::Unit,
         0x11 => Form::Atom(Atom(word::first_byte(w))),
@@ -46,7 +46,7 @@ pub fn bare_at(places: &Places, n: NodeId) -> Variable
     requires { n.0 < 512 }
     ensures { result.0 ≡ bare_in (node_word places.now n.0) }
 {
-    let w = places[n.0 as usize];
+    let w = places[usize::from(n.0)];
     if word::key(w) == 0x150001 {
         return Variable(word::first_byte(w));
     }
@@ -58,7 +58,7 @@ pub fn assumed_for(assumed: &Assumed, x: Variable) -> AtomSet
     requires { x.0 < 64 }
     ensures { result.0 ≡ assumed_for assumed.now x.0 }
 {
-    AtomSet(assumed[x.0 as usize])
+    AtomSet(assumed[usize::from(x.0)])
 }
 
 impl<'a> Input<'a> {
@@ -83,7 +83,7 @@ impl<'a> Input<'a> {
         requires { NodeStands self.now.bytes.now self.now.places.now n.0 × Suspended (form_now self.now.bytes.now n.0) }
         ensures { swaps_in result.now ≡ own_swaps (form_now self.now.bytes.now n.0) }
     {
-        let w = self.places[n.0 as usize];
+        let w = self.places[usize::from(n.0)];
         let at = (w % 65536) as usize;
         let start = at + 4;
         let end = at + 3 + word::length(w);

@@ -16,7 +16,7 @@ pub fn of_node(node_variables: &NodeVariables, node: NodeId) -> VariableSet
     requires { node.0 < 512 }
     ensures { result.0 ≡ set_of node_variables.now node.0 }
 {
-    let n = node.0 as usize;
+    let n = usize::from(node.0);
     VariableSet(node_variables[n])
 }
 
