@@ -8,7 +8,7 @@ ghost use Rattle.printer.specs.Placed.{Placed};
 ghost use Rattle.layout.specs.Parts.{part_fits};
 ghost use Rattle.printer.specs.Lines.{decimal, spaced, images, accepted_line, refused_line, bind_line, fresh_line, field_line};
 ghost use Rattle.printer.specs.Lines.{answer_lines, solver_lines, judge_line, problem_lines, cut_line};
-ghost use Rattle.printer.specs.Kinds.{begins, kind_of};
+ghost use Rattle.printer.specs.Kinds.{kind_of};
 
 use field::AtFront;
 use names::{Atom, NodeId, Variable};
@@ -31,23 +31,19 @@ pub fn put(out: &mut [u8], at: usize, s: &[u8]) -> usize
     if out.len() <= at {
         return out.len();
     }
-    let mut end = at;
-    let mut i: usize = 0;
-    while i < s.len() {
-        end = put_byte(out, end, s[i]);
-        i += 1;
-    }
-    end
+    let fits = s.len().min(out.len() - at);
+    out[at..at + fits].copy_from_slice(&s[..fits]);
+    at + fits
 }
 
 fn put_decimal(out: &mut [u8], at: usize, x: usize) -> usize
     ensures { Placed out.old at (decimal x) result out.new }
 {
     if x < 10 {
-        return put_byte(out, at, 48 + (x % 10) as u8);
+        return put_byte(out, at, b'0' + (x % 10) as u8);
     }
     let end = put_decimal(out, at, x / 10);
-    put_byte(out, end, 48 + (x % 10) as u8)
+    put_byte(out, end, b'0' + (x % 10) as u8)
 }
 
 fn put_spaced(out: &mut [u8], at: usize, x: usize) -> usize
@@ -64,10 +60,8 @@ fn put_images(out: &mut [u8], at: usize, s: &[u8]) -> usize
         return out.len();
     }
     let mut end = at;
-    let mut i: usize = 0;
-    while i < s.len() {
-        end = put_spaced(out, end, s[i] as usize);
-        i += 1;
+    for &image in s {
+        end = put_spaced(out, end, usize::from(image));
     }
     end
 }
@@ -93,8 +87,8 @@ fn put_bind(out: &mut [u8], at: usize, variable: Variable, node: NodeId, images:
     ensures { Placed out.old at (bind_line variable.0 node.0 images.now) result out.new }
 {
     let a = put(out, at, b"bind ");
-    let b = put_decimal(out, a, variable.0 as usize);
-    let c = put_spaced(out, b, node.0 as usize);
+    let b = put_decimal(out, a, usize::from(variable.0));
+    let c = put_spaced(out, b, usize::from(node.0));
     let d = put_images(out, c, images);
     put(out, d, b"\n")
 }
@@ -103,8 +97,8 @@ fn put_fresh(out: &mut [u8], at: usize, atom: Atom, variable: Variable) -> usize
     ensures { Placed out.old at (fresh_line atom.0 variable.0) result out.new }
 {
     let a = put(out, at, b"fresh ");
-    let b = put_decimal(out, a, atom.0 as usize);
-    let c = put_spaced(out, b, variable.0 as usize);
+    let b = put_decimal(out, a, usize::from(atom.0));
+    let c = put_spaced(out, b, usize::from(variable.0));
     put(out, c, b"\n")
 }
 
@@ -112,16 +106,12 @@ fn put_fresh(out: &mut [u8], at: usize, atom: Atom, variable: Variable) -> usize
 fn is_known(tag: u8, n: usize) -> bool
     ensures { result ≡ part_fits tag n }
 {
-    if tag == 0x4e {
-        return n == 4;
+    match tag {
+        0x4e => n == 4,
+        0x40 => 3 <= n,
+        0x41 => n == 2,
+        _ => false,
     }
-    if tag == 0x40 {
-        return 3 <= n;
-    }
-    if tag == 0x41 {
-        return n == 2;
-    }
-    false
 }
 
 #[tactic(auto, using(crate::proofs::Walking::steps_length, crate::proofs::Walking::binding_length, crate::proofs::Walking::fact_length))]
@@ -129,19 +119,17 @@ fn put_field(out: &mut [u8], at: usize, tag: u8, body: &[u8]) -> usize
     requires { part_fits tag (length body.now) ≡ true }
     ensures { Placed out.old at (field_line tag body.now) result out.new }
 {
-    if tag == 0x4e {
-        return put_accepted(out, at, field::four(body, 0));
-    }
-    if tag == 0x40 {
-        return put_bind(
+    match tag {
+        0x4e => put_accepted(out, at, field::four(body, 0)),
+        0x40 => put_bind(
             out,
             at,
             Variable(body[0]),
             NodeId(field::two(body, 1)),
             &body[3..],
-        );
+        ),
+        _ => put_fresh(out, at, Atom(body[0]), Variable(body[1])),
     }
-    put_fresh(out, at, Atom(body[0]), Variable(body[1]))
 }
 
 // The answer's lines, in answer order.
@@ -153,25 +141,15 @@ fn put_answer(out: &mut [u8], at: usize, answer: &[u8]) -> usize
     }
     let mut end = at;
     let mut rest = answer;
-    loop {
-        let f = field::front(rest);
-        match f {
-            AtFront::End => {
-                return end;
-            }
-            AtFront::Cut => {
-                return end;
-            }
-            AtFront::Whole(tag, n) => {
-                if !is_known(tag, n) {
-                    return end;
-                }
-                let body = field::body(rest, n);
-                end = put_field(out, end, tag, body);
-                rest = &rest[3 + n..];
-            }
+    while let AtFront::Whole(tag, n) = field::front(rest) {
+        if !is_known(tag, n) {
+            return end;
         }
+        let body = field::body(rest, n);
+        end = put_field(out, end, tag, body);
+        rest = &rest[3 + n..];
     }
+    end
 }
 
 // The solver's lines, from what it gives back, with the lent output: any number and place, also such as the table has not.
@@ -225,7 +203,7 @@ pub fn cut_line(out: &mut [u8], at: usize, count: usize) -> usize
 }
 
 // What a printed line says.
-#[derive(Clone, Copy)]
+#[derive(Clone, Copy, PartialEq, Eq)]
 pub enum Kind {
     Accepted,
     Refused,
@@ -235,40 +213,23 @@ pub enum Kind {
     Other,
 }
 
-fn begins(s: &[u8], word: &[u8]) -> bool
-    ensures { result ≡ begins word.now s.now }
-{
-    let mut i: usize = 0;
-    while i < word.len() {
-        if s.len() <= i {
-            return false;
-        }
-        if s[i] != word[i] {
-            return false;
-        }
-        i += 1;
-    }
-    true
-}
-
 // Tells by its word what a line says, so that whoever reads the lines again need not know how they are written.
-#[tactic(auto, unfolding(crate::specs::Kinds::kind_of))]
 pub fn kind_of(line: &[u8]) -> Kind
     ensures { result ≡ kind_of line.now }
 {
-    if begins(line, b"accepted ") {
+    if line.starts_with(b"accepted ") {
         return Kind::Accepted;
     }
-    if begins(line, b"refused ") {
+    if line.starts_with(b"refused ") {
         return Kind::Refused;
     }
-    if begins(line, b"bind ") {
+    if line.starts_with(b"bind ") {
         return Kind::Bind;
     }
-    if begins(line, b"fresh ") {
+    if line.starts_with(b"fresh ") {
         return Kind::Fresh;
     }
-    if begins(line, b"holds\n") {
+    if line.starts_with(b"holds\n") {
         return Kind::Holds;
     }
     Kind::Other

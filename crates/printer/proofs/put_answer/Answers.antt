@@ -2,7 +2,7 @@
 use Rattle.std.proofs.Common.{◌+◌, sym, ◌∙◌, arith}
 use lib.ListN.{length-drop}
 use Rattle.printer.proofs.Placing.{placed_past}
-use Rattle.printer.proofs.Walking.{midway_start, midway_stop, midway_cut, midway_unknown, midway_more, whole_fits, body_length, passed_on}
+use Rattle.printer.proofs.Walking.{midway_start, midway_over, midway_unknown, midway_more, whole_fits, body_length, passed_on}
 use Rattle.printer.proofs.put_answer.Goals as goal
 
 pub returns-then-out-at : goal.returns-then-out-at
@@ -11,11 +11,8 @@ returns-then-out-at c = placed_past _ _ _ c.if-out-at.true
 pub loop-tag-init : goal.loop-tag-init
 loop-tag-init c = midway_start _ _ _ (omega arith)
 
-pub returns-in-End : goal.returns-in-End
-returns-in-End c = midway_stop _ _ _ _ _ _ c.loop-tag.invariant (sym c.in-End.ensures)
-
-pub returns-in-Cut : goal.returns-in-Cut
-returns-in-Cut c = midway_cut _ _ _ _ _ _ c.loop-tag.invariant (sym c.in-Cut.ensures)
+pub returns : goal.returns
+returns c = midway_over _ _ _ _ _ _ c.loop-tag.invariant (λ tag n e. c.in_default.not-Whole tag n (c.front.ensures ∙ e))
 
 pub returns-then-not-is_known : goal.returns-then-not-is_known
 returns-then-not-is_known c =
