@@ -40,17 +40,17 @@ pub fn form_at(places: &Places, n: NodeId) -> Form
     }
 }
 
-// The variable that the table has for a suspension without swaps, whatever the input; for any other node 255, which is no variable.
+// The variable that the table has for a suspension without swaps, whatever the input; any other node has none.
 #[tactic(auto, unfolding(crate::specs::Look::bare_in))]
-pub fn bare_at(places: &Places, n: NodeId) -> Variable
+pub fn bare_at(places: &Places, n: NodeId) -> Option<Variable>
     requires { n.0 < 512 }
-    ensures { result.0 ≡ bare_in (node_word places.now n.0) }
+    ensures { result ≡ bare_in (node_word places.now n.0) }
 {
     let w = places[usize::from(n.0)];
     if word::key(w) == 0x150001 {
-        return Variable(word::first_byte(w));
+        return Some(Variable(word::first_byte(w)));
     }
-    Variable(255)
+    None
 }
 
 // The atoms that are assumed fresh for a variable.
@@ -70,10 +70,10 @@ impl<'a> Input<'a> {
         form_at(self.places, n)
     }
 
-    // The variable of a suspension without swaps; for any other node 255.
-    pub fn bare(&self, n: NodeId) -> Variable
+    // The variable of a suspension without swaps; any other node has none.
+    pub fn bare(&self, n: NodeId) -> Option<Variable>
         requires { NodeStands self.now.bytes.now self.now.places.now n.0 }
-        ensures { result.0 ≡ bare_of (form_now self.now.bytes.now n.0) }
+        ensures { result ≡ bare_of (form_now self.now.bytes.now n.0) }
     {
         bare_at(self.places, n)
     }
