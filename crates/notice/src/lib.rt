@@ -16,58 +16,36 @@ use std::io::Write;
 use std::time::Clock;
 
 // What there is to say of an answer: text means that a problem was refused which looks like hexadecimal text.
-#[derive(Clone, Copy)]
+#[derive(Clone, Copy, PartialEq, Eq)]
 pub enum Notice {
     Nothing,
     Refused,
     Text,
 }
 
-fn is_in(set: &[u8], byte: u8) -> bool
-    ensures { result ≡ among byte set.now }
-{
-    let mut i: usize = 0;
-    while i < set.len() {
-        if set[i] == byte {
-            return true;
-        }
-        i += 1;
-    }
-    false
-}
-
 // Whether what comes after the byte stands in a comment.
 fn in_comment(comment: bool, byte: u8) -> bool
     ensures { result ≡ in_comment comment byte }
 {
-    if comment {
-        return byte != b'\n';
-    }
-    byte == b'#'
+    if comment { byte != b'\n' } else { byte == b'#' }
 }
 
 // Whether the byte may stand in hexadecimal text.
 fn suits(comment: bool, byte: u8) -> bool
     ensures { result ≡ (comment || among byte plain) }
 {
-    if comment {
-        return true;
-    }
-    is_in(b"0123456789abcdefABCDEF \t\r\n#", byte)
+    comment || b"0123456789abcdefABCDEF \t\r\n#".contains(&byte)
 }
 
 fn looks_like_text(bytes: &[u8]) -> bool
     ensures { result ≡ looks false bytes.now }
 {
     let mut comment = false;
-    let mut i: usize = 0;
-    while i < bytes.len() {
-        let byte = bytes[i];
+    for &byte in bytes {
         if !suits(comment, byte) {
             return false;
         }
         comment = in_comment(comment, byte);
-        i += 1;
     }
     true
 }
@@ -76,13 +54,7 @@ fn looks_like_text(bytes: &[u8]) -> bool
 fn is_text(input: &[u8]) -> bool
     ensures { result ≡ is_text input.now }
 {
-    if input.len() == 0 {
-        return false;
-    }
-    if input.len() < 64 {
-        return looks_like_text(input);
-    }
-    looks_like_text(&input[..64])
+    !input.is_empty() && looks_like_text(&input[..input.len().min(64)])
 }
 
 // Whether a problem that is no problem from its first byte on is refused so.
@@ -93,16 +65,14 @@ fn is_no_problem(given: Given) -> bool
 }
 
 // Of any number and place, also such as the table has not.
+#[tactic(auto, unfolding(crate::specs::Notices::notice_of))]
 pub fn of(given: Given, input: &[u8]) -> Notice
     ensures { result ≡ notice_of given.number given.place input.now }
 {
     if given.number == 0 {
         return Notice::Nothing;
     }
-    if !is_no_problem(given) {
-        return Notice::Refused;
-    }
-    if is_text(input) {
+    if is_no_problem(given) && is_text(input) {
         return Notice::Text;
     }
     Notice::Refused
