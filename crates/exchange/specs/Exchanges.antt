@@ -1,8 +1,11 @@
 -- What a program does with the problem that it reads, for any answer in number n, place p and lines. Definitions alone.
-use Rattle.std.specs.Prelude.{ℕ, ◌≤◌, true, false, List, ◌⊎◌, ◌≡◌, length, take}
+use Rattle.std.specs.Prelude.{ℕ, ◌≤◌, true, List, [], ◌≡◌, length, take, Result, Ok, Err}
+use Rattle.descriptor.specs.Answers.{failed_of}
 use Rattle.notice.specs.Notices.{notice_of}
-use Rattle.notice.specs.declared.Notice.TheVariants.{Nothing}
-use Rattle.outlet.specs.Puts.{Puts}
+use Rattle.notice.specs.Told.{said}
+use Rattle.outlet.specs.Puts.{taken_of, Puts}
+use Rattle.intake.specs.declared.Filled.{Filled}
+use Rattle.intake.specs.declared.Unread as intake
 use Rattle.exchange.specs.declared.Worked.{Worked}
 use Rattle.exchange.specs.declared.Served.{Served}
 
@@ -17,17 +20,28 @@ pub record Works (n p : ℕ) (text out : List ℕ) (w : Worked) : Type 0 where
 
 -- The problem is answered, in a room that then holds the lines.
 pub record Answered (n p : ℕ) (text problem out : List ℕ) (r : Served) : Type 0 where
-  pub read : r.filled.failed ≡ false
   pub told : r.notice ≡ notice_of n p problem
   pub lines : take r.end out ≡ text
   pub wrote : Puts (length text) r.taken
 
 -- A read failed: nothing is worked, told or written.
-pub record Unread (before after : List ℕ) (r : Served) : Type 0 where
-  pub unread : r.filled.failed ≡ true
-  pub untold : r.notice ≡ Nothing
+pub record Unread (before after : List ℕ) (u : intake.Unread) : Type 0 where
+  pub unread : failed_of u.last.got ≡ true
   pub kept : after ≡ before
-  pub unwritten : Puts 0 r.taken
 
-abbrev pub Serves : ℕ → ℕ → List ℕ → List ℕ → List ℕ → List ℕ → Served → Type 0
-Serves n p text problem before after r = Answered n p text problem after r ⊎ Unread before after r
+abbrev pub Serves : ℕ → ℕ → List ℕ → List ℕ → List ℕ → List ℕ → Result Served intake.Unread → Type 0
+Serves n p text problem before after (Ok s) = Answered n p text problem after s
+Serves n p text problem before after (Err u) = Unread before after u
+
+-- How the problem was read; what was told of it, and what was written of a room.
+abbrev pub reading_of : Result Served intake.Unread → Result Filled intake.Unread
+reading_of (Ok s) = Ok s.filled
+reading_of (Err u) = Err u
+
+abbrev pub told_of : Result Served intake.Unread → List ℕ
+told_of (Ok s) = said s.notice
+told_of (Err u) = []
+
+abbrev pub written_of : Result Served intake.Unread → List ℕ → List ℕ
+written_of (Ok s) out = take (taken_of s.taken) (take s.end out)
+written_of (Err u) out = []

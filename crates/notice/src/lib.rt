@@ -85,10 +85,10 @@ pub fn tell<W: Write, C: Clock>(errors: &mut W, clock: &C, notice: Notice)
     match notice {
         Notice::Nothing => {}
         Notice::Refused => {
-            outlet::put(errors, clock, b"refused\n");
+            let _ = outlet::put(errors, clock, b"refused\n");
         }
         Notice::Text => {
-            outlet::put(errors, clock, b"refused\ntext\n");
+            let _ = outlet::put(errors, clock, b"refused\ntext\n");
         }
     }
 }
@@ -97,7 +97,7 @@ pub fn tell<W: Write, C: Clock>(errors: &mut W, clock: &C, notice: Notice)
 pub fn cut<W: Write, C: Clock>(errors: &mut W, clock: &C)
     ensures { Tells (W.contents errors.old) (W.contents errors.new) cut_said }
 {
-    outlet::put(errors, clock, b"cut\n");
+    let _ = outlet::put(errors, clock, b"cut\n");
 }
 
 // The system's words for an error, without the number that the library puts behind them.
@@ -111,10 +111,10 @@ fn words_of(told: &str) -> &str {
 // Says what failed and why.
 fn fail<W: Write, C: Clock>(errors: &mut W, clock: &C, what: &[u8], error: i32) {
     let told = InlineText::<256>::of(io::Error::from_raw_os_error(error));
-    outlet::put(errors, clock, what);
-    outlet::put(errors, clock, b": ");
-    outlet::put(errors, clock, words_of(told.as_str()).as_bytes());
-    outlet::put(errors, clock, b"\n");
+    let _ = outlet::put(errors, clock, what);
+    let _ = outlet::put(errors, clock, b": ");
+    let _ = outlet::put(errors, clock, words_of(told.as_str()).as_bytes());
+    let _ = outlet::put(errors, clock, b"\n");
 }
 
 // Says why the read failed that gave this answer.
@@ -123,7 +123,7 @@ pub fn unreadable<W: Write, C: Clock>(errors: &mut W, clock: &C, answer: Answer)
         errors,
         clock,
         b"standard input cannot be read",
-        descriptor::error(answer),
+        answer.error(),
     );
 }
 
@@ -133,6 +133,6 @@ pub fn unwritable<W: Write, C: Clock>(errors: &mut W, clock: &C, answer: Answer)
         errors,
         clock,
         b"standard output cannot be written",
-        descriptor::error(answer),
+        answer.error(),
     );
 }
