@@ -1,5 +1,5 @@
 // Nodes one after the other, each known by the first eight bytes of its field: as far as they come without a fault.
-ghost use Rattle.std.specs.Prelude.{◌≡◌, ◌+◌, ◌<◌, ◌≤◌, cond, length, set, drop};
+ghost use Rattle.std.specs.Prelude.{◌≡◌, ◌+◌, ◌<◌, ◌≤◌, Some, None, cond, length, set, drop};
 ghost use Rattle.sets.specs.Bits.{inserted, union};
 ghost use Rattle.field.specs.Word.{eight, length_in, first_byte_in, first_two_in, middle_two_in, last_two_in};
 ghost use Rattle.problem.specs.Held.{with_place};
@@ -9,14 +9,11 @@ ghost use Rattle.reader.specs.Found.{suspension_good, with_nodes, Kept, Seen, No
 ghost use Rattle.reader.specs.Onward.{NodesAsked, NodesRead};
 
 use field::word;
-use names::{NodeId, Variable};
+use names::{MOST_NODES, NodeId, Variable};
 use problem::{Counts, Places, keep};
 use says::all_below;
 use sets::VariableSet;
 use variables::NodeVariables;
-
-// "At most 512 nodes".
-const MOST_NODES: u16 = 512;
 
 // Where the first field stands that is not such a node, how many nodes there are then, and that field's first eight bytes.
 #[derive(Clone, Copy)]
@@ -39,36 +36,42 @@ fn put(
         × (node_variables.new ≡ set node_variables.old n variables.0)
         × (n < length places.old) × (n < length node_variables.old) }
 {
-    keep::put(places, n as usize, w);
-    variables::put(node_variables, n as usize, variables);
+    keep::put(places, usize::from(n), w);
+    variables::put(node_variables, usize::from(n), variables);
 }
 
-// Each of these puts node n down and gives the size of its field, or gives 0 if the field has a fault.
-fn unit(w: u64, n: u16, places: &mut Places, node_variables: &mut NodeVariables) -> usize
+// Each of these puts node n down and gives the size of its field, if the field has no fault.
+fn unit(w: u64, n: u16, places: &mut Places, node_variables: &mut NodeVariables) -> Option<usize>
     requires { n < 512 }
     ensures { Kept (unit_good w) 3 n w result places.old places.new
         × Kept (unit_good w) 3 n 0 result node_variables.old node_variables.new }
 {
     if word::key(w) != 0x100000 {
-        return 0;
+        return None;
     }
     put(places, node_variables, n, w, VariableSet::empty());
-    3
+    Some(3)
 }
 
-fn atom(w: u64, n: u16, atoms: u8, places: &mut Places, node_variables: &mut NodeVariables) -> usize
+fn atom(
+    w: u64,
+    n: u16,
+    atoms: u8,
+    places: &mut Places,
+    node_variables: &mut NodeVariables,
+) -> Option<usize>
     requires { n < 512 }
     ensures { Kept (atom_good atoms w) 4 n w result places.old places.new
         × Kept (atom_good atoms w) 4 n 0 result node_variables.old node_variables.new }
 {
     if word::key(w) != 0x110001 {
-        return 0;
+        return None;
     }
     if word::first_byte(w) >= atoms {
-        return 0;
+        return None;
     }
     put(places, node_variables, n, w, VariableSet::empty());
-    4
+    Some(4)
 }
 
 fn abstraction(
@@ -77,28 +80,28 @@ fn abstraction(
     atoms: u8,
     places: &mut Places,
     node_variables: &mut NodeVariables,
-) -> usize
+) -> Option<usize>
     requires { n < 512 }
     ensures { Kept (abstraction_good atoms n w) 6 n w result places.old places.new
         × Kept (abstraction_good atoms n w) 6 n (set_of node_variables.old (middle_two_in w)) result
         node_variables.old node_variables.new }
 {
     if word::key(w) != 0x120003 {
-        return 0;
+        return None;
     }
     if word::first_byte(w) >= atoms {
-        return 0;
+        return None;
     }
     let part = word::middle_two(w);
     if part >= n {
-        return 0;
+        return None;
     }
     let inside = variables::of_node(node_variables, NodeId(part));
     put(places, node_variables, n, w, inside);
-    6
+    Some(6)
 }
 
-fn pair(w: u64, n: u16, places: &mut Places, node_variables: &mut NodeVariables) -> usize
+fn pair(w: u64, n: u16, places: &mut Places, node_variables: &mut NodeVariables) -> Option<usize>
     requires { n < 512 }
     ensures { Kept (pair_good n w) 7 n w result places.old places.new
         × Kept (pair_good n w) 7 n
@@ -106,68 +109,73 @@ fn pair(w: u64, n: u16, places: &mut Places, node_variables: &mut NodeVariables)
         node_variables.old node_variables.new }
 {
     if word::key(w) != 0x130004 {
-        return 0;
+        return None;
     }
     let left = word::first_two(w);
     if left >= n {
-        return 0;
+        return None;
     }
     let right = word::last_two(w);
     if right >= n {
-        return 0;
+        return None;
     }
     let in_left = variables::of_node(node_variables, NodeId(left));
     let in_right = variables::of_node(node_variables, NodeId(right));
     put(places, node_variables, n, w, in_left.union(in_right));
-    7
+    Some(7)
 }
 
-fn application(w: u64, n: u16, places: &mut Places, node_variables: &mut NodeVariables) -> usize
+fn application(
+    w: u64,
+    n: u16,
+    places: &mut Places,
+    node_variables: &mut NodeVariables,
+) -> Option<usize>
     requires { n < 512 }
     ensures { Kept (application_good n w) 7 n w result places.old places.new
         × Kept (application_good n w) 7 n (set_of node_variables.old (last_two_in w)) result
         node_variables.old node_variables.new }
 {
     if word::key(w) != 0x140004 {
-        return 0;
+        return None;
     }
     let part = word::last_two(w);
     if part >= n {
-        return 0;
+        return None;
     }
     let inside = variables::of_node(node_variables, NodeId(part));
     put(places, node_variables, n, w, inside);
-    7
+    Some(7)
 }
 
 // The size of a suspension's field with swaps, if its length fits, it is whole and every swap's atoms are there.
-fn with_swaps(s: &[u8], at: usize, w: u64, atoms: u8) -> usize
+fn with_swaps(s: &[u8], at: usize, w: u64, atoms: u8) -> Option<usize>
     requires { at ≤ length s.now }
-    ensures { result ≡ cond (swaps_good atoms (drop at s.now) (length_in w)) (3 + length_in w) 0 }
+    ensures { result ≡ cond (swaps_good atoms (drop at s.now) (length_in w)) (Some (3 + length_in w)) None }
 {
     let n = word::length(w);
     if n % 2 != 1 {
-        return 0;
+        return None;
     }
     if n > 65 {
-        return 0;
+        return None;
     }
     if s.len() - at < 3 + n {
-        return 0;
+        return None;
     }
-    if all_below(&s[at + 4..at + 3 + n], atoms) {
-        return 3 + n;
+    if !all_below(&s[at + 4..at + 3 + n], atoms) {
+        return None;
     }
-    0
+    Some(3 + n)
 }
 
 // The same for any: most have no swaps.
-fn permuted(s: &[u8], at: usize, w: u64, atoms: u8) -> usize
+fn permuted(s: &[u8], at: usize, w: u64, atoms: u8) -> Option<usize>
     requires { at ≤ length s.now }
-    ensures { result ≡ cond (permutation_good atoms (drop at s.now) w) (3 + length_in w) 0 }
+    ensures { result ≡ cond (permutation_good atoms (drop at s.now) w) (Some (3 + length_in w)) None }
 {
     if word::key(w) == 0x150001 {
-        return 4;
+        return Some(4);
     }
     with_swaps(s, at, w, atoms)
 }
@@ -180,7 +188,7 @@ fn suspension(
     n: u16,
     places: &mut Places,
     node_variables: &mut NodeVariables,
-) -> usize
+) -> Option<usize>
     requires { (n < 512) × (at ≤ length s.now) × (length s.now ≤ 65535) }
     ensures { Kept (suspension_good c.atoms c.variables (drop at s.now) w) (3 + length_in w) n (with_place at w) result
         places.old places.new
@@ -188,19 +196,16 @@ fn suspension(
         node_variables.old node_variables.new }
 {
     if word::first_byte(w) >= c.variables {
-        return 0;
+        return None;
     }
-    let size = permuted(s, at, w, c.atoms);
-    if size == 0 {
-        return 0;
-    }
-    keep::put_suspension(places, n as usize, w, at as u16);
+    let size = permuted(s, at, w, c.atoms)?;
+    keep::put_suspension(places, usize::from(n), w, at as u16);
     variables::put(
         node_variables,
-        n as usize,
+        usize::from(n),
         VariableSet::empty().with(Variable(word::first_byte(w))),
     );
-    size
+    Some(size)
 }
 
 // The field as node n.
@@ -212,7 +217,7 @@ fn node(
     n: u16,
     places: &mut Places,
     node_variables: &mut NodeVariables,
-) -> usize
+) -> Option<usize>
     requires { (n < 512) × (at ≤ length s.now) × (length s.now ≤ 65535) × (w ≡ eight (drop at s.now)) × Seen (drop at s.now) }
     ensures { NodeStepped (drop at s.now) at (with_nodes c n) places.old node_variables.old result
         places.new node_variables.new }
@@ -224,7 +229,7 @@ fn node(
         0x13 => pair(w, n, places, node_variables),
         0x14 => application(w, n, places, node_variables),
         0x15 => suspension(s, at, w, c, n, places, node_variables),
-        _ => 0,
+        _ => None,
     }
 }
 
@@ -238,7 +243,7 @@ fn node_here(
     n: u16,
     places: &mut Places,
     node_variables: &mut NodeVariables,
-) -> usize
+) -> Option<usize>
     requires { (at ≤ length s.now) × (length s.now ≤ 65535) × (w ≡ eight (drop at s.now)) }
     ensures { NodeStepped (drop at s.now) at (with_nodes c n) places.old node_variables.old result
         places.new node_variables.new }
@@ -246,11 +251,11 @@ fn node_here(
     let left = s.len() - at;
     if left < 8 {
         if left < 3 + word::length(w) {
-            return 0;
+            return None;
         }
     }
-    if n >= MOST_NODES {
-        return 0;
+    if usize::from(n) >= MOST_NODES {
+        return None;
     }
     node(s, at, w, c, n, places, node_variables)
 }
@@ -270,16 +275,14 @@ pub fn nodes(
     let mut at = from;
     let mut n = c.nodes;
     loop {
-        let rest = &s[at..];
-        let w = word::eight(rest);
-        let size = node_here(s, at, w, c, n, places, node_variables);
-        if size == 0 {
+        let w = word::eight(&s[at..]);
+        let Some(size) = node_here(s, at, w, c, n, places, node_variables) else {
             return Reached {
                 place: at,
                 nodes: n,
                 word: w,
             };
-        }
+        };
         at += size;
         n += 1;
     }

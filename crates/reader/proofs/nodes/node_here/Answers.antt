@@ -17,9 +17,9 @@ returns-then-left-length c =
     (cut_node (sized_by (with_nodes c.args.c c.args.n)) (drop c.args.at s) (bytes_drop c.args.at s (λ i. (c.type_inv.s i).fits))
     (omega (arith, length_is, c.if-left-length.true, length-drop c.args.at s))))
 
-pub returns-then-n-ge-MOST_NODES : goal.returns-then-n-ge-MOST_NODES
-returns-then-n-ge-MOST_NODES c =
+pub returns-then-from-ge-MOST_NODES : goal.returns-then-from-ge-MOST_NODES
+returns-then-from-ge-MOST_NODES c =
     let s = c.args.s.now in
+    let many = rw c.from.ensures at c.if-from-ge-MOST_NODES.true in
     (λ assumed.
-    none_found
-    (node_past (sized_by (with_nodes c.args.c c.args.n)) (drop c.args.at s) (bytes_drop c.args.at s (λ i. (c.type_inv.s i).fits)) c.if-n-ge-MOST_NODES.true))
+    none_found (node_past (sized_by (with_nodes c.args.c c.args.n)) (drop c.args.at s) (bytes_drop c.args.at s (λ i. (c.type_inv.s i).fits)) many))
