@@ -6,7 +6,7 @@ use mathlib.Core.Logic.{◌≢◌}
 use mathlib.Core.Bool.{Bool, true, false, ◌&&◌, or_comm, cond, true≢false}
 use mathlib.Core.List.{List, [], ◌∷◌, ◌++◌, map, append_assoc, append-nil, Memᴰ}
 use mathlib.Core.Option.{Option, none, some}
-use lib.ListN.{length, get_or, set, drop, replicate, length-set, length-append, length-replicate, length-drop}
+use lib.ListN.{length, get_or, set, drop, replicate, length-set, length-replicate}
 use lib.ListN.{get_or-replicate, get_or-append}
 use lib.Seq.{get_or-set_same, get_or-set_other, set-get_or, set-set}
 use lib.Dec.{eqb}
@@ -260,10 +260,6 @@ emptied_at : (n i : ℕ) (l : List ℕ) → i < n → get_or (emptied n l) i 0 �
 unfolding emptied
 emptied_at n i l h = get_or-append (replicate n 0) (drop n l) 0 i (rw length-replicate h) ∙ get_or-replicate n i 0 0 h
 
-pub length_emptied : (n : ℕ) (l : List ℕ) → n ≤ length l → length (emptied n l) ≡ length l
-unfolding emptied
-length_emptied n l h = simp (length-append, length-replicate, length-drop) (omega arith)
-
 -- A column put in, or no such column there: either way its first sets are empty.
 column_emptied : (asked : List (List ℕ)) (column n : ℕ) (l : List ℕ) (i : ℕ) → i < n
     → get_or (get_or (set asked column (emptied n l)) column []) i 0 ≡ 0
@@ -317,6 +313,36 @@ variable_raised w X k t after h there e =
           let small : (a : ℕ) → Memᴰ a (members 32 w) → a < 32 = λ a m. member_within 32 w a h (in_members_member 32 w a m) in
           rw e (raised_variables nodes variables ds t X k (members 32 w) small there x r);
     }
+
+-- A row that has something is there; and so is the row of a node or a variable, once its lengths are seen.
+place_there : (l : List (List ℕ)) (i : ℕ) → 0 < length (get_or l i []) → i < length l
+place_there [] i h = absurd (omega arith)
+place_there (a ∷ l) zero h = omega arith
+place_there (a ∷ l) (suc i) h = let there = place_there l i h in omega arith
+
+pub row_there : (column i : ℕ) (t : Sheet) → i < 512 → length (get_or t.asked column []) ≡ 512 → length (get_or t.firsts (row_of column i) []) ≡ 32
+    → RowThere column i t
+row_there column i t h s n =
+    record { columns = place_there t.asked column (omega arith); sets = omega arith; rows = place_there t.firsts (row_of column i) (omega arith); numbers = n }
+
+pub set_there : (column i : ℕ) (asked : List (List ℕ)) → i < 512 → length (get_or asked column []) ≡ 512 → SetThere column i asked
+set_there column i asked h s = record { columns = place_there asked column (omega arith); sets = omega arith }
+
+-- What was marked in a row in hand is marked in the tables, once the row is put back.
+module _ (column i k : ℕ) where
+  pub marked_row : (b : ℕ) (row : ℕ) (asked firsts : List (List ℕ)) (sets numbers : List ℕ) → row_of column i ≡ row
+      → line sets numbers ≡ line_marked i k b (line (get_or asked column []) (get_or firsts row []))
+      → sheet (set asked column sets) (set firsts row numbers) ≡ marked column i k b (sheet asked firsts)
+  unfolding marked
+  marked_row b row asked firsts sets numbers here e =
+      rw here (ap (λ (l : Line). sheet (set asked column l.sets) (set firsts row l.numbers)) e)
+
+  pub marked_all_row : (bs : List ℕ) (row : ℕ) (asked firsts : List (List ℕ)) (sets numbers : List ℕ) → row_of column i ≡ row
+      → line sets numbers ≡ line_marked_all i k bs (line (get_or asked column []) (get_or firsts row []))
+      → sheet (set asked column sets) (set firsts row numbers) ≡ marked_all column i k bs (sheet asked firsts)
+  unfolding marked_all
+  marked_all_row bs row asked firsts sets numbers here e =
+      rw here (ap (λ (l : Line). sheet (set asked column l.sets) (set firsts row l.numbers)) e)
 
 -- ---- what asking more leaves
 
