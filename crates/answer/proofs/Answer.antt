@@ -7,7 +7,7 @@ use mathlib.Core.List.{List, [], ◌∷◌, ◌++◌, map}
 use lib.ListN.{length, take, drop, length-map, length-append, drop_of_length-le}
 use borrow.Author.Tests.{le-leb, lt-leb}
 use Rattle.bindings.specs.Bindings.{Bindings, order_in, variable_at, binding_at, bindings_of, Keeps}
-use Rattle.bindings.proofs.Bindings.{keeps_few, length_images_of, length_bindings_of, bindings_of_at}
+use Rattle.bindings.proofs.Laws.{keeps_few, length_images_of, length_bindings_of, bindings_of_at}
 use Rattle.run.specs.Meaning.{Fact}
 use Rattle.run.specs.Answer.{binding_bytes, fact_bytes, answer_bytes, written}
 use Rattle.std.specs.Prelude.{Ok, Err}

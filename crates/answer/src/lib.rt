@@ -12,7 +12,7 @@ ghost use Rattle.answer.specs.Written.{Wrote};
 ghost use Rattle.answer.specs.Fields.{steps_field, binding_field, fact_field};
 ghost use Rattle.answer.specs.Facts.{fact_set, facts_in, fact_bytes_of};
 
-use bindings::{Made, Values};
+use bindings::Bindings;
 use demands::Asked;
 use names::{Atom, Variable};
 use numbers::{Reason, Solved};
@@ -25,6 +25,7 @@ const BINDING: usize = 6;
 
 const FACT: usize = 5;
 
+// Where a number is cast to a smaller type below it is less than that type holds, as the contracts ask: `try_from` would bring a branch that is never taken.
 fn put(output: &mut [u8], at: usize, b: u8) -> usize
     requires { at < length output.old }
     ensures { Wrote output.old at (b ∷ []) result output.new }
@@ -33,12 +34,14 @@ fn put(output: &mut [u8], at: usize, b: u8) -> usize
     at + 1
 }
 
-fn put_two(output: &mut [u8], at: usize, n: u16) -> usize
-    requires { at + 2 ≤ length output.old }
-    ensures { Wrote output.old at (bytes2 n) result output.new }
+// All of the bytes, in one piece.
+fn put_all(output: &mut [u8], at: usize, bytes: &[u8]) -> usize
+    requires { at + length bytes.now ≤ length output.old }
+    ensures { Wrote output.old at bytes.now result output.new }
 {
-    let a = put(output, at, (n / 256) as u8);
-    put(output, a, (n % 256) as u8)
+    let end = at + bytes.len();
+    output[at..end].copy_from_slice(bytes);
+    end
 }
 
 fn put_front(output: &mut [u8], at: usize, tag: u8, n: u16) -> usize
@@ -46,7 +49,7 @@ fn put_front(output: &mut [u8], at: usize, tag: u8, n: u16) -> usize
     ensures { Wrote output.old at (tag ∷ bytes2 n) result output.new }
 {
     let a = put(output, at, tag);
-    put_two(output, a, n)
+    put_all(output, a, &n.to_be_bytes())
 }
 
 fn put_steps(output: &mut [u8], at: usize, steps: u32) -> usize
@@ -54,59 +57,44 @@ fn put_steps(output: &mut [u8], at: usize, steps: u32) -> usize
     ensures { Wrote output.old at (steps_field steps) result output.new }
 {
     let a = put_front(output, at, 0x4e, 4);
-    let b = put_two(output, a, (steps / 65536) as u16);
-    put_two(output, b, (steps % 65536) as u16)
+    put_all(output, a, &steps.to_be_bytes())
 }
 
 // The images of x's value, one at a time: its row is read where it lies.
-fn put_images(output: &mut [u8], at: usize, values: &Values, x: Variable, n: usize) -> usize
+fn put_images(output: &mut [u8], at: usize, bindings: &Bindings, x: Variable, n: usize) -> usize
     requires { (n ≤ 32) × (x.0 < 64) × (at + n ≤ length output.old) }
-    ensures { Wrote output.old at (images_of n values.now x.0) result output.new }
+    ensures { Wrote output.old at (images_of n bindings.now.values.now x.0) result output.new }
 {
     let mut end = at;
     for i in 0..n {
-        let a = bindings::image_of(values, n, x, Atom(i as u8));
+        let a = bindings.image_of(n, x, Atom(i as u8));
         end = put(output, end, a.0);
     }
     end
 }
 
-fn put_binding(
-    output: &mut [u8],
-    at: usize,
-    made: &Made,
-    values: &Values,
-    x: Variable,
-    n: usize,
-) -> usize
+fn put_binding(output: &mut [u8], at: usize, bindings: &Bindings, x: Variable, n: usize) -> usize
     requires { (n ≤ 32) × (x.0 < 64) × (at + (6 + n) ≤ length output.old) }
-    ensures { Wrote output.old at (binding_field (binding_at n (binding_tables made.now values.now) x.0))
+    ensures { Wrote output.old at (binding_field (binding_at n (binding_tables bindings.now.made.now bindings.now.values.now) x.0))
         result output.new }
 {
-    let node = bindings::node_of(made, x);
+    let node = bindings.node_of(x);
     let a = put_front(output, at, 0x40, 3 + n as u16);
     let b = put(output, a, x.0);
-    let c = put_two(output, b, node.0);
-    put_images(output, c, values, x, n)
+    let c = put_all(output, b, &node.0.to_be_bytes());
+    put_images(output, c, bindings, x, n)
 }
 
-fn put_bindings(
-    output: &mut [u8],
-    at: usize,
-    made: &Made,
-    values: &Values,
-    k: usize,
-    atoms: usize,
-) -> usize
-    requires { ((bound : ℕ) × Keeps made.now k bound) × (atoms ≤ 32)
-        × (at + length (binding_bytes (bindings_of atoms (binding_tables made.now values.now) k)) ≤ length output.old) }
-    ensures { Wrote output.old at (binding_bytes (bindings_of atoms (binding_tables made.now values.now) k))
+fn put_bindings(output: &mut [u8], at: usize, bindings: &Bindings, k: usize, atoms: usize) -> usize
+    requires { ((bound : ℕ) × Keeps bindings.now.made.now k bound) × (atoms ≤ 32)
+        × (at + length (binding_bytes (bindings_of atoms (binding_tables bindings.now.made.now bindings.now.values.now) k)) ≤ length output.old) }
+    ensures { Wrote output.old at (binding_bytes (bindings_of atoms (binding_tables bindings.now.made.now bindings.now.values.now) k))
         result output.new }
 {
     let mut end = at;
     for i in 0..k {
-        let x = bindings::variable_at(made, i);
-        end = put_binding(output, end, made, values, x, atoms);
+        let x = bindings.variable_at(i);
+        end = put_binding(output, end, bindings, x, atoms);
     }
     end
 }
@@ -116,8 +104,7 @@ fn put_fact(output: &mut [u8], at: usize, a: Atom, x: Variable) -> usize
     ensures { Wrote output.old at (fact_field (a.0, x.0)) result output.new }
 {
     let b = put_front(output, at, 0x41, 2);
-    let c = put(output, b, a.0);
-    put(output, c, x.0)
+    put_all(output, b, &[a.0, x.0])
 }
 
 fn put_facts_of(output: &mut [u8], at: usize, atoms: AtomSet, x: Variable) -> usize
@@ -182,8 +169,7 @@ fn count_facts(asked: &Asked, bound: VariableSet, atoms: usize, variables: usize
 // answer's length; or refuses, with the length wanted, and the output stays as it was.
 pub fn write(
     output: &mut [u8],
-    made: &Made,
-    values: &Values,
+    bindings: &Bindings,
     asked: &Asked,
     steps: u32,
     k: usize,
@@ -191,9 +177,9 @@ pub fn write(
     atoms: usize,
     variables: usize,
 ) -> Solved
-    requires { Keeps made.now k bound.0 × (atoms ≤ 32) × (variables ≤ 64) }
+    requires { Keeps bindings.now.made.now k bound.0 × (atoms ≤ 32) × (variables ≤ 64) }
     ensures { result_of result output.new ≡ written
-        (answer_bytes steps (bindings_of atoms (binding_tables made.now values.now) k)
+        (answer_bytes steps (bindings_of atoms (binding_tables bindings.now.made.now bindings.now.values.now) k)
         (facts_in atoms variables bound.0 (asked_of_variables asked.now)))
         output.old }
 {
@@ -203,6 +189,6 @@ pub fn write(
         return Err(numbers::refuse(Reason::TooShort, wanted));
     }
     let a = put_steps(output, 0, steps);
-    let b = put_bindings(output, a, made, values, k, atoms);
+    let b = put_bindings(output, a, bindings, k, atoms);
     Ok(put_facts(output, b, asked, bound, atoms, variables))
 }

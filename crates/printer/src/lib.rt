@@ -36,6 +36,7 @@ pub fn put(out: &mut [u8], at: usize, s: &[u8]) -> usize
     at + fits
 }
 
+// By hand, and not by Display: `write!` promises its text only where it came back Ok, and no clause of it says that it does. What a line puts here cannot fail.
 fn put_decimal(out: &mut [u8], at: usize, x: usize) -> usize
     ensures { Placed out.old at (decimal x) result out.new }
 {

@@ -1,6 +1,6 @@
 use Rattle.std.proofs.Common.{ℕ, ◌+◌, ◌≤◌, ◌<◌, List, ◌++◌, length, drop, ap, arith}
 use Rattle.bindings.specs.Bindings.{Bindings, binding_tables, variable_at, binding_at, bindings_of, Keeps}
-use Rattle.bindings.proofs.Bindings.{keeps_few, keeps_variable}
+use Rattle.bindings.proofs.Laws.{keeps_few, keeps_variable}
 use Rattle.run.specs.Answer.{binding_bytes}
 use Rattle.answer.specs.Fields.{binding_field}
 use Rattle.answer.proofs.Writing.{Left, left_same, left_more, left_room, left_done, wrote_same}
@@ -22,24 +22,24 @@ module _ (A : ℕ) (t : Bindings) (k bound : ℕ) (h : Keeps t.made k bound) (i 
 
 pub variable_at-x-requires : goal.variable_at-x-requires
 variable_at-x-requires c =
-    let few : c.args.k ≤ 64 = keeps_few c.args.made.now c.args.k c.requires.0.0 c.requires.0.1 in
-    (omega arith, keeps_variable c.args.made.now c.args.k c.requires.0.0 c.requires.0.1 c.loop-i.i c.loop-i-test.true)
+    let few : c.args.k ≤ 64 = keeps_few c.args.bindings.now.made.now c.args.k c.requires.0.0 c.requires.0.1 in
+    (omega arith, keeps_variable c.args.bindings.now.made.now c.args.k c.requires.0.0 c.requires.0.1 c.loop-i.i c.loop-i-test.true)
 
 pub put_binding-end-requires : goal.put_binding-end-requires
 put_binding-end-requires c = (
   c.requires.1,
-  omega (arith, c.variable_at-x.ensures, keeps_variable c.args.made.now c.args.k c.requires.0.0 c.requires.0.1 c.loop-i.i c.loop-i-test.true),
-  next_room c.args.atoms (binding_tables c.args.made.now c.args.values.now) c.args.k c.requires.0.0 c.requires.0.1 c.loop-i.i c.loop-i-test.true
+  omega (arith, c.variable_at-x.ensures, keeps_variable c.args.bindings.now.made.now c.args.k c.requires.0.0 c.requires.0.1 c.loop-i.i c.loop-i-test.true),
+  next_room c.args.atoms (binding_tables c.args.bindings.now.made.now c.args.bindings.now.values.now) c.args.k c.requires.0.0 c.requires.0.1 c.loop-i.i c.loop-i-test.true
       c.loop-i.invariant c.requires.2,
 )
 
 pub loop-i-preserved : goal.loop-i-preserved
 loop-i-preserved c =
-    let t = binding_tables c.args.made.now c.args.values.now in
+    let t = binding_tables c.args.bindings.now.made.now c.args.bindings.now.values.now in
     left_more (next_left c.args.atoms t c.args.k c.requires.0.0 c.requires.0.1 c.loop-i.i c.loop-i-test.true c.loop-i.invariant)
     (wrote_same (ap (λ (X : ℕ). binding_field (binding_at c.args.atoms t X)) c.variable_at-x.ensures) c.put_binding-end.ensures)
 
 pub returns : goal.returns
 returns c =
-    let t = binding_tables c.args.made.now c.args.values.now in
+    let t = binding_tables c.args.bindings.now.made.now c.args.bindings.now.values.now in
     left_done c.loop-i.invariant (bytes_past c.args.atoms t c.args.k c.requires.0.0 c.requires.0.1 c.loop-i.i c.loop-i-test.false)

@@ -4,11 +4,8 @@ use Rattle.answer.proofs.Writing.{wrote_same, ◌then◌}
 use Rattle.answer.proofs.Fields.{length_two, fact_parts}
 use Rattle.answer.proofs.put_fact.Goals as goal
 
-pub put-c-requires : goal.put-c-requires
-put-c-requires c = omega (arith, length_two 2)
-
-pub put-requires : goal.put-requires
-put-requires c = omega (arith, length_two 2)
+pub put_all-requires : goal.put_all-requires
+put_all-requires c = omega (arith, length_two 2)
 
 pub returns : goal.returns
-returns c = wrote_same (fact_parts (c.args.a.0, c.args.x.0)) (c.put_front-b.ensures then c.put-c.ensures then c.put.ensures)
+returns c = wrote_same (fact_parts (c.args.a.0, c.args.x.0)) (c.put_front-b.ensures then c.put_all.ensures)

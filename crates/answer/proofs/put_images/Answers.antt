@@ -3,7 +3,7 @@ use lib.ListN.{drop_of_length-le}
 use lib.Seq.{drop-cons}
 use Rattle.permutation.specs.Table.{image}
 use Rattle.bindings.specs.Bindings.{images_of}
-use Rattle.bindings.proofs.Bindings.{length_images_of}
+use Rattle.bindings.proofs.Laws.{length_images_of}
 use Rattle.answer.proofs.Writing.{left_same, left_more, left_done, wrote_same}
 use Rattle.answer.proofs.put_images.Goals as goal
 
@@ -13,10 +13,10 @@ images_here n values X i h = rw (add-one i) (drop-cons (images_of n values X) i 
 
 pub loop-i-preserved : goal.loop-i-preserved
 loop-i-preserved c =
-    left_more (left_same (images_here c.args.n c.args.values.now c.args.x.0 c.loop-i.i c.loop-i-test.true) c.loop-i.invariant)
+    left_more (left_same (images_here c.args.n c.args.bindings.now.values.now c.args.x.0 c.loop-i.i c.loop-i-test.true) c.loop-i.invariant)
     (wrote_same (ap (λ (b : ℕ). b ∷ []) c.image_of-a.ensures) c.put-end.ensures)
 
 pub returns : goal.returns
 returns c =
-    let images = images_of c.args.n c.args.values.now c.args.x.0 in
-    left_done c.loop-i.invariant (drop_of_length-le images {i = c.loop-i.i} (omega (arith, length_images_of c.args.n c.args.values.now c.args.x.0)))
+    let images = images_of c.args.n c.args.bindings.now.values.now c.args.x.0 in
+    left_done c.loop-i.invariant (drop_of_length-le images {i = c.loop-i.i} (omega (arith, length_images_of c.args.n c.args.bindings.now.values.now c.args.x.0)))

@@ -5,4 +5,4 @@ use Rattle.answer.proofs.Writing.{Left}
 use Rattle.answer.proofs.put_images.Given as goal
 
 abbrev pub invariant-loop-i : goal.invariant-loop-i
-invariant-loop-i l = let images = images_of l.n l.values l.x.0 in Left l.output l.end (drop l.i images) l.fn.output l.at images
+invariant-loop-i l = let images = images_of l.n l.bindings.values.now l.x.0 in Left l.output l.end (drop l.i images) l.fn.output l.at images

@@ -13,12 +13,12 @@ use Rattle.answer.proofs.write.Goals as goal
 pub overflow_mul-wanted : goal.overflow_mul-wanted
 overflow_mul-wanted c =
     let a = c.args in
-    omega (arith, bindings_few a.atoms (binding_tables a.made.now a.values.now) a.k a.bound.0 c.requires.0 c.requires.1)
+    omega (arith, bindings_few a.atoms (binding_tables a.bindings.now.made.now a.bindings.now.values.now) a.k a.bound.0 c.requires.0 c.requires.1)
 
 pub overflow_add-wanted-2 : goal.overflow_add-wanted-2
 overflow_add-wanted-2 c =
     let a = c.args in
-    omega (arith, bindings_few a.atoms (binding_tables a.made.now a.values.now) a.k a.bound.0 c.requires.0 c.requires.1)
+    omega (arith, bindings_few a.atoms (binding_tables a.bindings.now.made.now a.bindings.now.values.now) a.k a.bound.0 c.requires.0 c.requires.1)
 
 pub overflow_mul-wanted-2 : goal.overflow_mul-wanted-2
 overflow_mul-wanted-2 c =
@@ -30,7 +30,7 @@ overflow_add-wanted-3 c =
     let a = c.args in
     omega (
       arith,
-      bindings_few a.atoms (binding_tables a.made.now a.values.now) a.k a.bound.0 c.requires.0 c.requires.1,
+      bindings_few a.atoms (binding_tables a.bindings.now.made.now a.bindings.now.values.now) a.k a.bound.0 c.requires.0 c.requires.1,
       few_facts a.atoms a.variables a.bound.0 (asked_of_variables a.asked.now) c.requires.2,
     )
 
@@ -38,7 +38,7 @@ pub returns-then-output-wanted : goal.returns-then-output-wanted
 returns-then-output-wanted c =
     let a = c.args in
     let facts = facts_in a.atoms a.variables a.bound.0 (asked_of_variables a.asked.now) in
-    let wanted = length_answer a.atoms (binding_tables a.made.now a.values.now) a.k a.bound.0 c.requires.0 a.steps facts in
+    let wanted = length_answer a.atoms (binding_tables a.bindings.now.made.now a.bindings.now.values.now) a.k a.bound.0 c.requires.0 a.steps facts in
     written_short _ _ _ c.refuse.ensures (omega (arith, wanted)) (omega (arith, wanted))
 
 pub put_bindings-b-requires : goal.put_bindings-b-requires
@@ -46,7 +46,7 @@ put_bindings-b-requires c =
     let a = c.args in (
       (a.bound.0, c.requires.0),
       c.requires.1,
-      omega (arith, length_steps_field a.steps, length_bindings a.atoms (binding_tables a.made.now a.values.now) a.k a.bound.0 c.requires.0),
+      omega (arith, length_steps_field a.steps, length_bindings a.atoms (binding_tables a.bindings.now.made.now a.bindings.now.values.now) a.k a.bound.0 c.requires.0),
     )
 
 pub put_facts-requires : goal.put_facts-requires
@@ -58,7 +58,7 @@ put_facts-requires c =
       omega (
         arith,
         length_steps_field a.steps,
-        length_bindings a.atoms (binding_tables a.made.now a.values.now) a.k a.bound.0 c.requires.0,
+        length_bindings a.atoms (binding_tables a.bindings.now.made.now a.bindings.now.values.now) a.k a.bound.0 c.requires.0,
         length_fact_bytes facts,
       ),
     )
@@ -66,8 +66,8 @@ put_facts-requires c =
 pub returns : goal.returns
 returns c =
     let a = c.args in
-    let bindings = bindings_of a.atoms (binding_tables a.made.now a.values.now) a.k in
+    let bindings = bindings_of a.atoms (binding_tables a.bindings.now.made.now a.bindings.now.values.now) a.k in
     let facts = facts_in a.atoms a.variables a.bound.0 (asked_of_variables a.asked.now) in
     written_whole _ _ _ _
     (wrote_same (answer_fields a.steps bindings facts) (c.put_steps-a.ensures then c.put_bindings-b.ensures then c.put_facts.ensures))
-    (omega (arith, length_answer a.atoms (binding_tables a.made.now a.values.now) a.k a.bound.0 c.requires.0 a.steps facts))
+    (omega (arith, length_answer a.atoms (binding_tables a.bindings.now.made.now a.bindings.now.values.now) a.k a.bound.0 c.requires.0 a.steps facts))
