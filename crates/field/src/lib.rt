@@ -42,7 +42,7 @@ pub fn body(s: &[u8], n: usize) -> &[u8]
     &s[3..3 + n]
 }
 
-// The number in the two bytes from i.
+// The number in the two bytes from i; `four` is not the same function, since from_be_bytes is of each type and of no trait.
 pub fn two(s: &[u8], i: usize) -> u16
     requires { i + 2 ≤ length s.now }
     ensures { result ≡ word s.now i }

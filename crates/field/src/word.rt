@@ -49,6 +49,7 @@ pub fn eight(s: &[u8]) -> u64
     fewest(s)
 }
 
+// What it has of a field. One expression each, and a name for it: one function with the place for a parameter would be read with document 01's table in hand.
 pub fn tag(w: u64) -> u8
     ensures { result ≡ opened.tag_in w }
 {

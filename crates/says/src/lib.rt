@@ -27,25 +27,20 @@ pub enum Said {
     Protection(Variable),
 }
 
-// One test of a field each, with the row of document 01's table that stands for it: 5, 6, and three times 7.
+// One test of a field each, with the row of document 01's table that stands for it: 5, 6, and three times 7. The three stay apart, as the kinds of name are:
+// each has a count of its own and hands on a name of its own type.
 fn has_length(b: &[u8], n: usize) -> Result<(), Reason>
     ensures { MatchResult result (λ _. length b.now ≡ n)
         (λ r. (length b.now ≢ n) × (r ≡ Reason.WrongLength)) }
 {
-    if b.len() != n {
-        return Err(Reason::WrongLength);
-    }
-    Ok(())
+    (b.len() == n).then_some(()).ok_or(Reason::WrongLength)
 }
 
 fn room_after(there: usize, most: usize) -> Result<(), Reason>
     ensures { MatchResult result (λ _. there < most)
         (λ r. (most ≤ there) × (r ≡ Reason.TooMany)) }
 {
-    if there >= most {
-        return Err(Reason::TooMany);
-    }
-    Ok(())
+    (there < most).then_some(()).ok_or(Reason::TooMany)
 }
 
 impl Sizes {
@@ -53,30 +48,25 @@ impl Sizes {
         ensures { MatchResult result (λ x. (x ≡ record { 0 = a }) × (a < self.atoms))
             (λ r. (self.atoms ≤ a) × (r ≡ Reason.NotThere)) }
     {
-        if a >= self.atoms {
-            return Err(Reason::NotThere);
-        }
-        Ok(Atom(a))
+        (a < self.atoms).then_some(Atom(a)).ok_or(Reason::NotThere)
     }
 
     fn variable(self, x: u8) -> Result<Variable, Reason>
         ensures { MatchResult result (λ v. (v ≡ record { 0 = x }) × (x < self.variables))
             (λ r. (self.variables ≤ x) × (r ≡ Reason.NotThere)) }
     {
-        if x >= self.variables {
-            return Err(Reason::NotThere);
-        }
-        Ok(Variable(x))
+        (x < self.variables)
+            .then_some(Variable(x))
+            .ok_or(Reason::NotThere)
     }
 
     fn node(self, n: u16) -> Result<NodeId, Reason>
         ensures { MatchResult result (λ v. (v ≡ record { 0 = n }) × (n < self.nodes))
             (λ r. (self.nodes ≤ n) × (r ≡ Reason.NotThere)) }
     {
-        if n >= self.nodes {
-            return Err(Reason::NotThere);
-        }
-        Ok(NodeId(n))
+        (n < self.nodes)
+            .then_some(NodeId(n))
+            .ok_or(Reason::NotThere)
     }
 }
 
@@ -151,10 +141,10 @@ fn suspension(b: &[u8], z: Sizes) -> Result<Said, Reason>
     }
     room_after(usize::from(z.nodes), MOST_NODES)?;
     z.variable(b[0])?;
-    if all_below(&b[1..], z.atoms) {
-        return Ok(Said::Node);
+    if !all_below(&b[1..], z.atoms) {
+        return Err(Reason::NotThere);
     }
-    Err(Reason::NotThere)
+    Ok(Said::Node)
 }
 
 #[tactic(auto, using(crate::proofs::ByTag::equation_said))]
