@@ -165,11 +165,10 @@ fn come(
     ensures { Came (bare_in (node_word places.now node)) node x.0 atoms.0
         on_variables.old late.old on_variables.new late.new }
 {
-    if look::bare_at(places, NodeId(node)).0 == 255 {
-        wait(late, node);
-        return;
+    match look::bare_at(places, NodeId(node)) {
+        Some(_) => add_atoms(on_variables, usize::from(x.0), atoms),
+        None => wait(late, node),
     }
-    add_atoms(on_variables, usize::from(x.0), atoms);
 }
 
 // "Freshness is judged part by part, a compound term by its parts": marks the atoms at the node and what 003's rules lead to within its parts, whose numbers
