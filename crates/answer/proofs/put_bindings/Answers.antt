@@ -26,12 +26,13 @@ variable_at-x-requires c =
     (omega arith, keeps_variable c.args.bindings.now.made.now c.args.k c.requires.0.0 c.requires.0.1 c.loop-i.i c.loop-i-test.true)
 
 pub put_binding-end-requires : goal.put_binding-end-requires
-put_binding-end-requires c = (
-  c.requires.1,
-  omega (arith, c.variable_at-x.ensures, keeps_variable c.args.bindings.now.made.now c.args.k c.requires.0.0 c.requires.0.1 c.loop-i.i c.loop-i-test.true),
-  next_room c.args.atoms (binding_tables c.args.bindings.now.made.now c.args.bindings.now.values.now) c.args.k c.requires.0.0 c.requires.0.1 c.loop-i.i c.loop-i-test.true
-      c.loop-i.invariant c.requires.2,
-)
+put_binding-end-requires c =
+    let a = c.args in
+    let t = binding_tables a.bindings.now.made.now a.bindings.now.values.now in (
+      c.requires.1,
+      omega (arith, c.variable_at-x.ensures, keeps_variable a.bindings.now.made.now a.k c.requires.0.0 c.requires.0.1 c.loop-i.i c.loop-i-test.true),
+      next_room a.atoms t a.k c.requires.0.0 c.requires.0.1 c.loop-i.i c.loop-i-test.true c.loop-i.invariant c.requires.2,
+    )
 
 pub loop-i-preserved : goal.loop-i-preserved
 loop-i-preserved c =

@@ -18,5 +18,6 @@ loop-i-preserved c =
 
 pub returns : goal.returns
 returns c =
-    let images = images_of c.args.n c.args.bindings.now.values.now c.args.x.0 in
-    left_done c.loop-i.invariant (drop_of_length-le images {i = c.loop-i.i} (omega (arith, length_images_of c.args.n c.args.bindings.now.values.now c.args.x.0)))
+    let a = c.args in
+    let images = images_of a.n a.bindings.now.values.now a.x.0 in
+    left_done c.loop-i.invariant (drop_of_length-le images {i = c.loop-i.i} (omega (arith, length_images_of a.n a.bindings.now.values.now a.x.0)))

@@ -43,10 +43,11 @@ returns-then-output-wanted c =
 
 pub put_bindings-b-requires : goal.put_bindings-b-requires
 put_bindings-b-requires c =
-    let a = c.args in (
+    let a = c.args in
+    let t = binding_tables a.bindings.now.made.now a.bindings.now.values.now in (
       (a.bound.0, c.requires.0),
       c.requires.1,
-      omega (arith, length_steps_field a.steps, length_bindings a.atoms (binding_tables a.bindings.now.made.now a.bindings.now.values.now) a.k a.bound.0 c.requires.0),
+      omega (arith, length_steps_field a.steps, length_bindings a.atoms t a.k a.bound.0 c.requires.0),
     )
 
 pub put_facts-requires : goal.put_facts-requires
