@@ -47,6 +47,7 @@ pub struct Bindings<'a> {
 
 impl<'a> Bindings<'a> {
     // One more binding, after the k that were made: of a variable that is not bound. The set of bound variables comes back with it.
+    #[tactic(auto, using(crate::proofs::Laws::keeps_room))]
     pub fn add(
         &mut self,
         k: usize,

@@ -4,12 +4,6 @@ use Rattle.bindings.specs.Bindings.{binding_tables, put_in, with_binding}
 use Rattle.bindings.proofs.Laws.{keeps_room, room, added}
 use Rattle.bindings.proofs.Bindings.add.Goals as goal
 
-pub offset_bounds-order-k : goal.offset_bounds-order-k
-offset_bounds-order-k c = let few = keeps_room _ _ _ c.requires.0 c.args.x.0 c.requires.2 c.requires.1 in search rules
-
-pub bounds-order-k : goal.bounds-order-k
-bounds-order-k c = let few = keeps_room _ _ _ c.requires.0 c.args.x.0 c.requires.2 c.requires.1 in omega arith
-
 -- Each column was seen to have its place where it was about to be written.
 pub returns : goal.returns
 unfolding with_binding put_in
