@@ -1,7 +1,6 @@
 pub mod Right
 pub mod Asked
 pub mod Images
-pub mod Cleared
 pub mod Beginning
 pub mod Closing
 pub mod Waiting

@@ -1,6 +1,7 @@
 -- The marks in the code's tables: of each node and of each variable the set of atoms that are to be fresh for it, and when they are done. Definitions alone.
-use Rattle.std.specs.Prelude.{ℕ, ◌≤◌, ◌<◌, ◌^◌, ◌≡◌, Bool, true, false, cond, List, [], length, get_or}
-use Rattle.std.proofs.Math.Option.{Option, none, some}
+use Rattle.std.specs.Prelude.{ℕ, ◌≤◌, ◌<◌, ◌^◌, ◌≡◌, Bool, true, false, cond, List, [], length, get_or, Option, Some, None}
+use Rattle.std.proofs.Math.Option.{Option as Maybe, none, some}
+use Rattle.names.specs.declared.Variable.{Variable}
 use Rattle.sets.specs.Bits.{member, difference}
 use Rattle.permutation.specs.Table.{image, Permutes}
 use Rattle.problem.specs.Problem.{Node, unit_form, atom_form, abstraction_form, pair_form, application_form, suspension_form, form_at, Problem}
@@ -27,11 +28,11 @@ SoFar p asked marks = Marked p (seen_in marks) (asked_of_variables asked)
 -- The demands S were visited: all that is left to look through are pairs with bound variables.
 pub record Begun (nodes : List Node) (S Mark : Pair → Type 0) : Type 0 where
   pub has : (w : Pair) → S w → Mark w
-  pub from : (value : ℕ → Option Side) → (w : Pair) → Mark w → PairReached nodes value S w
-  pub looked : (value : ℕ → Option Side) → (w : Pair) → Mark w → Looked nodes value Mark w
+  pub from : (value : ℕ → Maybe Side) → (w : Pair) → Mark w → PairReached nodes value S w
+  pub looked : (value : ℕ → Maybe Side) → (w : Pair) → Mark w → Looked nodes value Mark w
 
 -- And then all that waited was looked through.
-pub record LookedThrough (nodes : List Node) (value : ℕ → Option Side) (Before After : Pair → Type 0) : Type 0 where
+pub record LookedThrough (nodes : List Node) (value : ℕ → Maybe Side) (Before After : Pair → Type 0) : Type 0 where
   pub kept : (w : Pair) → Before w → After w
   pub from : (w : Pair) → After w → PairReached nodes value Before w
   pub closed : (w : Pair) → After w → Closed nodes value After w
@@ -40,7 +41,7 @@ pub record LookedThrough (nodes : List Node) (value : ℕ → Option Side) (Befo
 abbrev pub valued : ℕ → List (List ℕ) → List (List ℕ) → ℕ → Side
 valued A made values X = record { images = images_of A values X; node = node_of made X }
 
-abbrev pub value_at : ℕ → ℕ → List (List ℕ) → List (List ℕ) → ℕ → Option Side
+abbrev pub value_at : ℕ → ℕ → List (List ℕ) → List (List ℕ) → ℕ → Maybe Side
 value_at A bound made values X = cond (member bound X) (some (valued A made values X)) none
 
 -- Bound variables are there, and their values are sides.
@@ -64,23 +65,20 @@ pub record Waits (bound : ℕ) (asked done : List ℕ) (X : ℕ) (r : Bool) : Ty
   pub found : r ≡ true → (member bound X ≡ true) × (0 < new_at asked done X)
   pub none : r ≡ false → member bound X ≡ true → new_at asked done X ≡ 0
 
--- The first variable that waits so, of those from one up to another; that other one, if there is none.
-pub record NextBetween (bound : ℕ) (asked done : List ℕ) (least most r : ℕ) : Type 0 where
-  pub within : r ≤ most
-  pub found : r < most → (member bound r ≡ true) × (0 < new_at asked done r)
-  pub none : r ≡ most → (X : ℕ) → least ≤ X → X < most → member bound X ≡ true → new_at asked done X ≡ 0
+-- A variable that waits so, of those from one up to another; none, if none of these does.
+pub record NextBetween (bound : ℕ) (asked done : List ℕ) (least most : ℕ) (r : Option Variable) : Type 0 where
+  pub found : (x : Variable) → r ≡ Some x → (x.0 < most) × (member bound x.0 ≡ true) × (0 < new_at asked done x.0)
+  pub none : r ≡ None → (X : ℕ) → least ≤ X → X < most → member bound X ≡ true → new_at asked done X ≡ 0
 
--- A variable that waits so; the number after the last variable, if none of those below one does.
-pub record LastBelow (bound : ℕ) (asked done : List ℕ) (from variables r : ℕ) : Type 0 where
-  pub most : r ≤ variables
-  pub found : r < variables → (member bound r ≡ true) × (0 < new_at asked done r)
-  pub none : r ≡ variables → (X : ℕ) → X < from → member bound X ≡ true → new_at asked done X ≡ 0
+-- A variable that waits so, of those below one; none, if none of these does.
+pub record LastBelow (bound : ℕ) (asked done : List ℕ) (from : ℕ) (r : Option Variable) : Type 0 where
+  pub found : (x : Variable) → r ≡ Some x → (x.0 < from) × (member bound x.0 ≡ true) × (0 < new_at asked done x.0)
+  pub none : r ≡ None → (X : ℕ) → X < from → member bound X ≡ true → new_at asked done X ≡ 0
 
--- A variable that waits so; the number after the last variable, if there is none.
-pub record Next (bound : ℕ) (asked done : List ℕ) (variables r : ℕ) : Type 0 where
-  pub most : r ≤ variables
-  pub found : r < variables → (member bound r ≡ true) × (0 < new_at asked done r)
-  pub none : r ≡ variables → (X : ℕ) → X < variables → member bound X ≡ true → new_at asked done X ≡ 0
+-- A variable that waits so; none, if no variable does.
+pub record Next (bound : ℕ) (asked done : List ℕ) (variables : ℕ) (r : Option Variable) : Type 0 where
+  pub found : (x : Variable) → r ≡ Some x → (x.0 < variables) × (member bound x.0 ≡ true) × (0 < new_at asked done x.0)
+  pub none : r ≡ None → (X : ℕ) → X < variables → member bound X ≡ true → new_at asked done X ≡ 0
 
 -- A bound variable's new atoms were passed on to its value, each as the atom that the value's images send to it: the demands and the marks before and
 -- after. What is demanded of nodes stays.
