@@ -63,6 +63,7 @@ pub fn assumed_for(assumed: &Assumed, x: Variable) -> AtomSet
 
 impl<'a> Input<'a> {
     // The form that a node of the input has.
+    #[tactic(auto, using(crate::proofs::Looking::form_kept))]
     pub fn form_of(&self, n: NodeId) -> Form
         requires { NodeStands self.now.bytes.now self.now.places.now n.0 }
         ensures { result ≡ form_told (form_now self.now.bytes.now n.0) }
@@ -71,6 +72,7 @@ impl<'a> Input<'a> {
     }
 
     // The variable of a suspension without swaps; any other node has none.
+    #[tactic(auto, using(crate::proofs::Looking::variable_kept))]
     pub fn bare(&self, n: NodeId) -> Option<Variable>
         requires { NodeStands self.now.bytes.now self.now.places.now n.0 }
         ensures { result ≡ bare_of (form_now self.now.bytes.now n.0) }
