@@ -46,6 +46,15 @@ fn empty_rows(sets: &mut [u32], n: usize)
     sets[..n].fill(0);
 }
 
+// Nothing is demanded yet, of so many nodes and variables.
+pub fn clear(asked: &mut Asked, nodes: usize, variables: usize)
+    requires { (nodes ≤ 512) × (variables ≤ 64) }
+    ensures { asked.new ≡ demands_cleared nodes variables asked.old }
+{
+    empty_rows(&mut asked[NODES], nodes);
+    empty_rows(&mut asked[VARIABLES], variables);
+}
+
 // The atoms asked of a node, and of a variable.
 pub fn of_node(asked: &Asked, n: NodeId) -> AtomSet
     requires { n.0 < 512 }
@@ -148,16 +157,6 @@ pub struct Demands<'a> {
 }
 
 impl<'a> Demands<'a> {
-    // Nothing is demanded yet, of so many nodes and variables.
-    pub fn clear(&mut self, nodes: usize, variables: usize)
-        requires { (nodes ≤ 512) × (variables ≤ 64) }
-        ensures asked { self.new.asked.now ≡ demands_cleared nodes variables self.old.asked.now }
-        ensures firsts { self.new.firsts.now ≡ self.old.firsts.now }
-    {
-        empty_rows(&mut self.asked[NODES], nodes);
-        empty_rows(&mut self.asked[VARIABLES], variables);
-    }
-
     // "a is demanded fresh for t": of the side's node it is the atom that the side's images send to a.
     pub fn raise_side(&mut self, a: Atom, p: Permutation, atoms: usize, node: NodeId, number: u8)
         requires { (atoms ≤ 32) × (a.0 < atoms) × (node.0 < 512) }
