@@ -129,7 +129,7 @@ impl<'a> Stack<'a> {
         }
     }
 
-    // Two methods for two definitions: one with a side would say of each image which side it means, and is no plainer.
+    // Two methods, as left_at and right_at are two definitions: one with the side as a parameter would need a third, and be no plainer where it is called.
     pub fn left_image(&self, n: usize, atoms: usize, a: Atom) -> Atom
         requires { (n < most_waiting) × (atoms ≤ 32) }
         ensures { result.0 ≡ image (left_at atoms self.now.images.now n) a.0 }
