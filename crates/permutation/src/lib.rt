@@ -3,7 +3,7 @@
 // an operation follows n and not 32.
 #![tactic(auto)]
 
-ghost use Rattle.std.specs.Prelude.{◌≡◌, true, ℕ, ◌≤◌, length};
+ghost use Rattle.std.specs.Prelude.{◌≡◌, true, ℕ, ◌≤◌, ◌<◌, length, map};
 ghost use Rattle.permutation.specs.Swaps.{swapped, Within, swaps_in};
 ghost use Rattle.permutation.specs.Table.{image, tabulate, identity, after, inverted, of_swaps, swapped_after, disagreement};
 ghost use Rattle.permutation.specs.Store.{table, of_table};
@@ -44,10 +44,8 @@ pub fn each_stays(images: &[u8]) -> bool
     ensures { result ≡ true → (n : ℕ) → n ≤ 32 → table n (record { images = images.entry.now }) ≡ identity n }
 {
     let mut other = false;
-    let mut a: usize = 0;
-    while a < MOST_ATOMS {
+    for a in 0..MOST_ATOMS {
         other = other | (images[a] != a as u8);
-        a += 1;
     }
     !other
 }
@@ -57,11 +55,29 @@ pub fn image(p: Permutation, n: usize, a: Atom) -> Atom
     requires { n ≤ 32 }
     ensures { result.0 ≡ image (table n p) a.0 }
 {
-    let i = a.0 as usize;
-    if i < n {
-        return Atom(p.images[i]);
+    image_in(&p.images, n, a)
+}
+
+// The same under images wherever they lie.
+pub fn image_in(images: &[u8], n: usize, a: Atom) -> Atom
+    requires { n ≤ length images.now }
+    ensures { result.0 ≡ image (table n (record { images = images.entry.now })) a.0 }
+{
+    let i = usize::from(a.0);
+    if i < n { Atom(images[i]) } else { a }
+}
+
+// The atom whose image is a: of several the first counts, and it is 0 if there is none, as in the inverse.
+pub fn preimage(images: &[u8], n: usize, a: Atom) -> Atom
+    requires { (n ≤ 32) × (n ≤ length images.now) × (a.0 < n) }
+    ensures { result.0 ≡ image (inverted (table n (record { images = images.entry.now }))) a.0 }
+{
+    for i in 0..n {
+        if images[i] == a.0 {
+            return Atom(i as u8);
+        }
     }
-    a
+    Atom(0)
 }
 
 // First q, then p.
@@ -70,30 +86,20 @@ pub fn compose(p: Permutation, q: Permutation, n: usize) -> Permutation
     ensures { result ≡ of_table (after (table n p) (table n q)) }
 {
     let mut r = Permutation { images: EACH };
-    let mut i: usize = 0;
-    while i < n {
-        let b = q.images[i];
-        let k = b as usize;
-        if k < n {
-            r.images[i] = p.images[k];
-        } else {
-            r.images[i] = b;
-        }
-        i += 1;
+    for i in 0..n {
+        r.images[i] = image_in(&p.images, n, Atom(q.images[i])).0;
     }
     r
 }
 
-// Each of n atoms at 0: what an inverse has of them before any place is looked at.
+// Each of n atoms at 0: what an inverse has of them before any place is looked at. Not by `fill`: what an array has after a part of it was lent is not known.
 fn unplaced(n: usize) -> Permutation
     requires { n ≤ 32 }
     ensures { result ≡ of_table (tabulate n (λ a. 0)) }
 {
     let mut r = Permutation { images: EACH };
-    let mut i: usize = 0;
-    while i < n {
+    for i in 0..n {
         r.images[i] = 0;
-        i += 1;
     }
     r
 }
@@ -104,10 +110,8 @@ pub fn invert(p: Permutation, n: usize) -> Permutation
     ensures { result ≡ of_table (inverted (table n p)) }
 {
     let mut r = unplaced(n);
-    let mut i = n;
-    while 0 < i {
-        i -= 1;
-        let k = p.images[i] as usize;
+    for i in (0..n).rev() {
+        let k = usize::from(p.images[i]);
         if k < n {
             r.images[k] = i as u8;
         }
@@ -119,16 +123,22 @@ pub fn invert(p: Permutation, n: usize) -> Permutation
 pub fn swap_atom(a: Atom, b: Atom, c: Atom) -> Atom
     ensures { result.0 ≡ swapped a.0 b.0 c.0 }
 {
-    let x = a.0;
-    let y = b.0;
-    let k = c.0;
-    if k == x {
-        return b;
+    if c == a {
+        b
+    } else if c == b {
+        a
+    } else {
+        c
     }
-    if k == y {
-        return a;
+}
+
+// The same of each image, where they lie, with no test between them.
+pub fn swap_in(images: &mut [u8], a: Atom, b: Atom)
+    ensures { images.new ≡ map (swapped a.0 b.0) images.old }
+{
+    for image in images {
+        *image = swap_atom(a, b, Atom(*image)).0;
     }
-    c
 }
 
 // First p, then the swap of a and b.
@@ -137,11 +147,8 @@ pub fn swap_after(a: Atom, b: Atom, p: Permutation, n: usize) -> Permutation
     ensures { result ≡ of_table (swapped_after a.0 b.0 (table n p)) }
 {
     let mut r = Permutation { images: EACH };
-    let mut i: usize = 0;
-    while i < n {
-        let k = swap_atom(a, b, Atom(p.images[i]));
-        r.images[i] = k.0;
-        i += 1;
+    for i in 0..n {
+        r.images[i] = swap_atom(a, b, Atom(p.images[i])).0;
     }
     r
 }
@@ -153,15 +160,12 @@ pub fn of_swaps(s: &[u8], n: usize) -> Permutation
     ensures { result ≡ of_table (of_swaps n (swaps_in s.now)) }
 {
     let mut r = identity(n);
-    let mut i: usize = 0;
-    while i + 1 < s.len() {
-        let a = s[i] as usize;
-        let b = s[i + 1] as usize;
+    for pair in s.chunks_exact(2) {
+        let a = usize::from(pair[0]);
+        let b = usize::from(pair[1]);
         let x = r.images[a];
-        let y = r.images[b];
-        r.images[a] = y;
+        r.images[a] = r.images[b];
         r.images[b] = x;
-        i += 2;
     }
     r
 }
@@ -171,13 +175,20 @@ pub fn disagreement(p: Permutation, q: Permutation, n: usize) -> AtomSet
     requires { n ≤ 32 }
     ensures { result.0 ≡ of_list 32 (disagreement (table n p) (table n q)) }
 {
+    disagreement_in(&p.images, &q.images, n)
+}
+
+// The same of images wherever they lie.
+pub fn disagreement_in(images: &[u8], others: &[u8], n: usize) -> AtomSet
+    requires { (n ≤ 32) × (n ≤ length images.now) × (n ≤ length others.now) }
+    ensures { result.0 ≡ of_list 32 (disagreement
+        (table n (record { images = images.entry.now })) (table n (record { images = others.entry.now }))) }
+{
     let mut r = AtomSet::empty();
-    let mut i: usize = 0;
-    while i < n {
-        if p.images[i] != q.images[i] {
+    for i in 0..n {
+        if images[i] != others[i] {
             r = r.with(Atom(i as u8));
         }
-        i += 1;
     }
     r
 }
