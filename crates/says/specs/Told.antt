@@ -1,5 +1,5 @@
 -- What the code tells of a field, in its own types: the kind of its item, or why it is refused. Definitions alone.
-use Rattle.std.specs.Prelude.{ℕ, zero, suc, Bool, true, ◌&&◌, cond, List, [], ◌∷◌, eqb, ltb, Result, Ok, Err}
+use Rattle.std.specs.Prelude.{ℕ, zero, suc, ◌≡◌, Bool, true, false, ◌&&◌, cond, List, [], ◌∷◌, eqb, ltb, Result, Ok, Err, MatchResult}
 use Rattle.numbers.specs.Numbers.{number_of}
 use Rattle.numbers.specs.declared.Reason.{Reason}
 use Rattle.numbers.specs.declared.Reason.TheVariants as reason
@@ -31,6 +31,10 @@ said_by (suc f) i = Err (row (suc f))
 
 unfoldable pub said_of : Sizes → ℕ → List ℕ → Result Said Reason
 said_of z tag s = said_by (fault base_tags z tag s) (item tag s)
+
+-- A name of a field as a test of whether it is there hands it on, or the row for one that is not.
+abbrev pub NamedIf : {N : Type 0} → Result N Reason → Bool → N → Type 0
+NamedIf r there name = MatchResult r (λ n. (n ≡ name) × (there ≡ true)) (λ f. (there ≡ false) × (f ≡ reason.NotThere))
 
 -- The number of the fault, or 0.
 abbrev pub fault_by : Result Said Reason → ℕ

@@ -1,8 +1,8 @@
 // What one whole field after the head says, or why it is refused. The tests stand in the order of document 01: 4, 5, 6, 7.
 #![tactic(auto)]
 
-ghost use Rattle.std.specs.Prelude.{◌≡◌, ◌≢◌, ◌<◌, ◌≤◌, length, MatchResult};
-ghost use Rattle.says.specs.Told.{below, said_of, sized};
+ghost use Rattle.std.specs.Prelude.{◌≡◌, ◌≢◌, ◌<◌, ◌≤◌, length, MatchResult, nat_lt};
+ghost use Rattle.says.specs.Told.{below, said_of, sized, NamedIf};
 
 use names::{Atom, MOST_NODES, NodeId, Variable};
 use numbers::Reason;
@@ -45,15 +45,13 @@ fn room_after(there: usize, most: usize) -> Result<(), Reason>
 
 impl Sizes {
     fn atom(self, a: u8) -> Result<Atom, Reason>
-        ensures { MatchResult result (λ x. (x ≡ record { 0 = a }) × (a < self.atoms))
-            (λ r. (self.atoms ≤ a) × (r ≡ Reason.NotThere)) }
+        ensures { NamedIf result (nat_lt a self.atoms) (record { 0 = a }) }
     {
         (a < self.atoms).then_some(Atom(a)).ok_or(Reason::NotThere)
     }
 
     fn variable(self, x: u8) -> Result<Variable, Reason>
-        ensures { MatchResult result (λ v. (v ≡ record { 0 = x }) × (x < self.variables))
-            (λ r. (self.variables ≤ x) × (r ≡ Reason.NotThere)) }
+        ensures { NamedIf result (nat_lt x self.variables) (record { 0 = x }) }
     {
         (x < self.variables)
             .then_some(Variable(x))
@@ -61,8 +59,7 @@ impl Sizes {
     }
 
     fn node(self, n: u16) -> Result<NodeId, Reason>
-        ensures { MatchResult result (λ v. (v ≡ record { 0 = n }) × (n < self.nodes))
-            (λ r. (self.nodes ≤ n) × (r ≡ Reason.NotThere)) }
+        ensures { NamedIf result (nat_lt n self.nodes) (record { 0 = n }) }
     {
         (n < self.nodes)
             .then_some(NodeId(n))
