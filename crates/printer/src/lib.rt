@@ -14,16 +14,6 @@ use field::AtFront;
 use names::{Atom, NodeId, Variable};
 use numbers::Given;
 
-fn put_byte(out: &mut [u8], at: usize, b: u8) -> usize
-    ensures { Placed out.old at (b ∷ []) result out.new }
-{
-    if out.len() <= at {
-        return out.len();
-    }
-    out[at] = b;
-    at + 1
-}
-
 // Writes s from index `at` on, as much as fits, and answers where it ends: what is written next starts there.
 pub fn put(out: &mut [u8], at: usize, s: &[u8]) -> usize
     ensures { Placed out.old at s.now result out.new }
@@ -36,71 +26,151 @@ pub fn put(out: &mut [u8], at: usize, s: &[u8]) -> usize
     at + fits
 }
 
-// By hand, and not by Display: `write!` promises its text only where it came back Ok, and no clause of it says that it does. What a line puts here cannot fail.
-fn put_decimal(out: &mut [u8], at: usize, x: usize) -> usize
-    ensures { Placed out.old at (decimal x) result out.new }
-{
-    if x < 10 {
-        return put_byte(out, at, b'0' + (x % 10) as u8);
+// Lent bytes, and the index at which the next text starts.
+#[derive(Drop)]
+struct Lines<'a> {
+    out: &'a mut [u8],
+    at: usize,
+}
+
+impl<'a> Lines<'a> {
+    fn put(&mut self, s: &[u8])
+        ensures same { self.new.out.ghost_name ≡ self.old.out.ghost_name }
+        ensures placed { Placed self.old.out.now self.old.at s.now self.new.at self.new.out.now }
+    {
+        self.at = put(self.out, self.at, s);
     }
-    let end = put_decimal(out, at, x / 10);
-    put_byte(out, end, b'0' + (x % 10) as u8)
-}
 
-fn put_spaced(out: &mut [u8], at: usize, x: usize) -> usize
-    ensures { Placed out.old at (spaced x) result out.new }
-{
-    let a = put(out, at, b" ");
-    put_decimal(out, a, x)
-}
-
-fn put_images(out: &mut [u8], at: usize, s: &[u8]) -> usize
-    ensures { Placed out.old at (images s.now) result out.new }
-{
-    if out.len() <= at {
-        return out.len();
+    // By hand, and not by Display: `write!` promises its text only where it came back Ok, and no clause of it says that it does. What a line
+    // puts here cannot fail.
+    fn decimal(&mut self, x: usize)
+        ensures same { self.new.out.ghost_name ≡ self.old.out.ghost_name }
+        ensures placed { Placed self.old.out.now self.old.at (decimal x) self.new.at self.new.out.now }
+    {
+        if 10 <= x {
+            self.decimal(x / 10);
+        }
+        self.put(&[b'0' + (x % 10) as u8]);
     }
-    let mut end = at;
-    for &image in s {
-        end = put_spaced(out, end, usize::from(image));
+
+    fn spaced(&mut self, x: usize)
+        ensures same { self.new.out.ghost_name ≡ self.old.out.ghost_name }
+        ensures placed { Placed self.old.out.now self.old.at (spaced x) self.new.at self.new.out.now }
+    {
+        self.put(b" ");
+        self.decimal(x);
     }
-    end
-}
 
-fn put_accepted(out: &mut [u8], at: usize, steps: u32) -> usize
-    ensures { Placed out.old at (accepted_line steps) result out.new }
-{
-    let a = put(out, at, b"accepted ");
-    let b = put_decimal(out, a, steps as usize);
-    put(out, b, b"\n")
-}
+    fn images(&mut self, s: &[u8])
+        ensures same { self.new.out.ghost_name ≡ self.old.out.ghost_name }
+        ensures placed { Placed self.old.out.now self.old.at (images s.now) self.new.at self.new.out.now }
+    {
+        if self.out.len() <= self.at {
+            self.at = self.out.len();
+            return;
+        }
+        for &image in s {
+            self.spaced(usize::from(image));
+        }
+    }
 
-fn put_refused(out: &mut [u8], at: usize, given: Given) -> usize
-    ensures { Placed out.old at (refused_line given.number given.place) result out.new }
-{
-    let a = put(out, at, b"refused ");
-    let b = put_decimal(out, a, usize::from(given.number));
-    let c = put_spaced(out, b, given.place);
-    put(out, c, b"\n")
-}
+    fn accepted(&mut self, steps: u32)
+        ensures same { self.new.out.ghost_name ≡ self.old.out.ghost_name }
+        ensures placed { Placed self.old.out.now self.old.at (accepted_line steps) self.new.at self.new.out.now }
+    {
+        self.put(b"accepted ");
+        self.decimal(steps as usize);
+        self.put(b"\n");
+    }
 
-fn put_bind(out: &mut [u8], at: usize, variable: Variable, node: NodeId, images: &[u8]) -> usize
-    ensures { Placed out.old at (bind_line variable.0 node.0 images.now) result out.new }
-{
-    let a = put(out, at, b"bind ");
-    let b = put_decimal(out, a, usize::from(variable.0));
-    let c = put_spaced(out, b, usize::from(node.0));
-    let d = put_images(out, c, images);
-    put(out, d, b"\n")
-}
+    fn refused(&mut self, given: Given)
+        ensures same { self.new.out.ghost_name ≡ self.old.out.ghost_name }
+        ensures placed { Placed self.old.out.now self.old.at (refused_line given.number given.place) self.new.at self.new.out.now }
+    {
+        self.put(b"refused ");
+        self.decimal(usize::from(given.number));
+        self.spaced(given.place);
+        self.put(b"\n");
+    }
 
-fn put_fresh(out: &mut [u8], at: usize, atom: Atom, variable: Variable) -> usize
-    ensures { Placed out.old at (fresh_line atom.0 variable.0) result out.new }
-{
-    let a = put(out, at, b"fresh ");
-    let b = put_decimal(out, a, usize::from(atom.0));
-    let c = put_spaced(out, b, usize::from(variable.0));
-    put(out, c, b"\n")
+    fn bind(&mut self, variable: Variable, node: NodeId, images: &[u8])
+        ensures same { self.new.out.ghost_name ≡ self.old.out.ghost_name }
+        ensures placed { Placed self.old.out.now self.old.at (bind_line variable.0 node.0 images.now) self.new.at self.new.out.now }
+    {
+        self.put(b"bind ");
+        self.decimal(usize::from(variable.0));
+        self.spaced(usize::from(node.0));
+        self.images(images);
+        self.put(b"\n");
+    }
+
+    fn fresh(&mut self, atom: Atom, variable: Variable)
+        ensures same { self.new.out.ghost_name ≡ self.old.out.ghost_name }
+        ensures placed { Placed self.old.out.now self.old.at (fresh_line atom.0 variable.0) self.new.at self.new.out.now }
+    {
+        self.put(b"fresh ");
+        self.decimal(usize::from(atom.0));
+        self.spaced(usize::from(variable.0));
+        self.put(b"\n");
+    }
+
+    #[tactic(auto, using(crate::proofs::Walking::steps_length, crate::proofs::Walking::binding_length, crate::proofs::Walking::fact_length))]
+    fn field(&mut self, tag: u8, body: &[u8])
+        requires { part_fits tag (length body.now) ≡ true }
+        ensures same { self.new.out.ghost_name ≡ self.old.out.ghost_name }
+        ensures placed { Placed self.old.out.now self.old.at (field_line tag body.now) self.new.at self.new.out.now }
+    {
+        match tag {
+            0x4e => self.accepted(field::four(body, 0)),
+            0x40 => self.bind(Variable(body[0]), NodeId(field::two(body, 1)), &body[3..]),
+            _ => self.fresh(Atom(body[0]), Variable(body[1])),
+        }
+    }
+
+    // The answer's lines, in answer order.
+    fn answer(&mut self, answer: &[u8])
+        ensures same { self.new.out.ghost_name ≡ self.old.out.ghost_name }
+        ensures placed { Placed self.old.out.now self.old.at (answer_lines answer.now) self.new.at self.new.out.now }
+    {
+        if self.out.len() <= self.at {
+            self.at = self.out.len();
+            return;
+        }
+        let mut rest = answer;
+        while let AtFront::Whole(tag, n) = field::front(rest) {
+            if !is_known(tag, n) {
+                return;
+            }
+            self.field(tag, field::body(rest, n));
+            rest = &rest[3 + n..];
+        }
+    }
+
+    #[tactic(auto, unfolding(crate::specs::Lines::solver_lines))]
+    fn solver(&mut self, given: Given, output: &[u8])
+        ensures same { self.new.out.ghost_name ≡ self.old.out.ghost_name }
+        ensures placed { Placed self.old.out.now self.old.at (solver_lines given.number given.place output.now) self.new.at self.new.out.now }
+    {
+        if given.number != 0 {
+            self.refused(given);
+        } else if given.place < output.len() {
+            self.answer(&output[..given.place]);
+        } else {
+            self.answer(output);
+        }
+    }
+
+    #[tactic(auto, unfolding(crate::specs::Lines::judge_line))]
+    fn judge(&mut self, given: Given)
+        ensures same { self.new.out.ghost_name ≡ self.old.out.ghost_name }
+        ensures placed { Placed self.old.out.now self.old.at (judge_line given.number given.place) self.new.at self.new.out.now }
+    {
+        if given.number != 0 {
+            self.refused(given);
+        } else {
+            self.put(b"holds\n");
+        }
+    }
 }
 
 #[tactic(auto, unfolding(layout::specs::Parts::part_fits))]
@@ -115,67 +185,22 @@ fn is_known(tag: u8, n: usize) -> bool
     }
 }
 
-#[tactic(auto, using(crate::proofs::Walking::steps_length, crate::proofs::Walking::binding_length, crate::proofs::Walking::fact_length))]
-fn put_field(out: &mut [u8], at: usize, tag: u8, body: &[u8]) -> usize
-    requires { part_fits tag (length body.now) ≡ true }
-    ensures { Placed out.old at (field_line tag body.now) result out.new }
-{
-    match tag {
-        0x4e => put_accepted(out, at, field::four(body, 0)),
-        0x40 => put_bind(
-            out,
-            at,
-            Variable(body[0]),
-            NodeId(field::two(body, 1)),
-            &body[3..],
-        ),
-        _ => put_fresh(out, at, Atom(body[0]), Variable(body[1])),
-    }
-}
-
-// The answer's lines, in answer order.
-fn put_answer(out: &mut [u8], at: usize, answer: &[u8]) -> usize
-    ensures { Placed out.old at (answer_lines answer.now) result out.new }
-{
-    if out.len() <= at {
-        return out.len();
-    }
-    let mut end = at;
-    let mut rest = answer;
-    while let AtFront::Whole(tag, n) = field::front(rest) {
-        if !is_known(tag, n) {
-            return end;
-        }
-        let body = field::body(rest, n);
-        end = put_field(out, end, tag, body);
-        rest = &rest[3 + n..];
-    }
-    end
-}
-
 // The solver's lines, from what it gives back, with the lent output: any number and place, also such as the table has not.
-#[tactic(auto, unfolding(crate::specs::Lines::solver_lines))]
 pub fn solver_lines(out: &mut [u8], at: usize, given: Given, output: &[u8]) -> usize
     ensures { Placed out.old at (solver_lines given.number given.place output.now) result out.new }
 {
-    if given.number != 0 {
-        return put_refused(out, at, given);
-    }
-    if given.place < output.len() {
-        return put_answer(out, at, &output[..given.place]);
-    }
-    put_answer(out, at, output)
+    let mut lines = Lines { out, at };
+    lines.solver(given, output);
+    lines.at
 }
 
 // The judge's line.
-#[tactic(auto, unfolding(crate::specs::Lines::judge_line))]
 pub fn judge_line(out: &mut [u8], at: usize, given: Given) -> usize
     ensures { Placed out.old at (judge_line given.number given.place) result out.new }
 {
-    if given.number != 0 {
-        return put_refused(out, at, given);
-    }
-    put(out, at, b"holds\n")
+    let mut lines = Lines { out, at };
+    lines.judge(given);
+    lines.at
 }
 
 // What one problem of a stream prints.
@@ -188,19 +213,23 @@ pub fn problem_lines(
 ) -> usize
     ensures { Placed out.old at (problem_lines solved.number solved.place output.now judged.number judged.place) result out.new }
 {
-    let a = solver_lines(out, at, solved, output);
-    let b = judge_line(out, a, judged);
-    put(out, b, b"\n")
+    let mut lines = Lines { out, at };
+    lines.solver(solved, output);
+    lines.judge(judged);
+    lines.put(b"\n");
+    lines.at
 }
 
 // The last line of a stream that ends inside a length or a problem.
 pub fn cut_line(out: &mut [u8], at: usize, count: usize) -> usize
     ensures { Placed out.old at (cut_line count) result out.new }
 {
-    let a = put(out, at, b"stream cut after ");
-    let b = put_decimal(out, a, count);
-    let c = put(out, b, b" problems");
-    put(out, c, b"\n")
+    let mut lines = Lines { out, at };
+    lines.put(b"stream cut after ");
+    lines.decimal(count);
+    lines.put(b" problems");
+    lines.put(b"\n");
+    lines.at
 }
 
 // What a printed line says.
