@@ -2,8 +2,7 @@
 // for room; four bytes of room for each byte of an answer are always enough.
 #![tactic(auto)]
 
-ghost use Rattle.std.specs.Prelude.{◌≡◌, true, [], ◌∷◌, ◌+◌, ◌<◌, length};
-ghost use Rattle.field.specs.Field.{word};
+ghost use Rattle.std.specs.Prelude.{◌≡◌, true, length};
 ghost use Rattle.printer.specs.Placed.{Placed};
 ghost use Rattle.layout.specs.Parts.{part_fits};
 ghost use Rattle.printer.specs.Lines.{decimal, spaced, images, accepted_line, refused_line, bind_line, fresh_line, field_line};
