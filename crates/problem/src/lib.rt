@@ -41,7 +41,7 @@ pub type Assumed = [u32; MOST_VARIABLES];
 
 pub const EMPTY_ASSUMED: Assumed = [0; MOST_VARIABLES];
 
-// A node's form. A suspension's swaps stay in the bytes: `look::swaps_of` hands them back as a part of the input.
+// A node's form. A suspension's swaps stay in the bytes: `Input::swaps_of` hands them back as a part of the input.
 #[derive(Clone, Copy, PartialEq, Eq)]
 pub enum Form {
     Unit,

@@ -23,7 +23,8 @@ pub struct Freshness {
     pub node: NodeId,
 }
 
-// The form that the table has for a node, whatever the input.
+// The form that the table has for a node, whatever the input. The tags are document 01's own numbers, and this match makes forms of them: with an enum of
+// tags there would be two, one to make the tag and one of the tag.
 #[tactic(auto, unfolding(crate::specs::Look::form_in))]
 pub fn form_at(places: &Places, n: NodeId) -> Form
     requires { n.0 < 512 }

@@ -185,6 +185,7 @@ fn protection(b: &[u8], z: Sizes) -> Result<Said, Reason>
     Ok(Said::Protection(x))
 }
 
+// The tags are the numbers of document 01's table, and this match is where they are known or not: an enum of tags would need the same match, and a second.
 #[tactic(auto, using(crate::proofs::Saying::no_base_tag), unfolding(crate::specs::Told::said_of, problem::specs::Reader::fault))]
 pub fn field_says(tag: u8, b: &[u8], z: Sizes) -> Result<Said, Reason>
     ensures { result ≡ said_of (sized z) tag b.now }
