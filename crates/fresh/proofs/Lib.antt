@@ -6,3 +6,4 @@ pub mod Closing
 pub mod Waiting
 pub mod Clashes
 pub mod Tables
+pub mod Cleared

@@ -33,14 +33,6 @@ const SEEN: usize = 0;
 
 const DONE: usize = 1;
 
-// No atoms in the first n rows.
-fn clear(rows: &mut [u32], n: usize)
-    requires { n ≤ length rows.old }
-    ensures { (i : ℕ) → i < n → get_or rows.new i 0 ≡ 0 }
-{
-    rows[..n].fill(0);
-}
-
 // The atoms that a variable's value sends into the set from outside: its images are read where they lie.
 fn through_images(bindings: &Bindings, n: usize, x: Variable, atoms: AtomSet) -> AtomSet
     requires { (n ≤ 32) × (x.0 < 64) }
@@ -261,16 +253,6 @@ fn clashing(input: &Input, seen: &Sets, nodes: usize) -> bool
     demands::any(seen, nodes) && clashing_marked(input, seen, nodes)
 }
 
-// Nothing is seen at the nodes in use, and nothing was passed on from the variables in use.
-fn clear_marks(marks: &mut Marks, nodes: usize, variables: usize)
-    requires { (nodes ≤ 512) × (variables ≤ 512) }
-    ensures seen { (i : ℕ) → i < nodes → get_or (seen_in marks.new) i 0 ≡ 0 }
-    ensures done { (i : ℕ) → i < variables → get_or (done_in marks.new) i 0 ≡ 0 }
-{
-    clear(&mut marks[SEEN], nodes);
-    clear(&mut marks[DONE], variables);
-}
-
 // "the demands of tags 21 and 22 and those raised are resolved under the bindings": the atoms demanded of each node and of each variable come in the
 // table. True if a demand ends at an atom fresh for itself. The facts are then the atoms left at the unbound variables. It goes on to the end all the
 // same, so what is looked at does not depend on where a clash is.
@@ -294,7 +276,7 @@ pub fn resolve(
         (SoFar (problem_of input.now.bytes.now) asked.new marks.new) (result ≡ true) }
     ensures kept { asked_of_nodes asked.new ≡ asked_of_nodes asked.old }
 {
-    clear_marks(marks, nodes, variables);
+    demands::clear(marks, nodes, variables);
     begin(input, asked, &mut marks[SEEN], nodes);
     close(input, bound, bindings, asked, marks, atoms, variables);
     clashing(input, &marks[SEEN], nodes)
