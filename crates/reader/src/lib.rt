@@ -3,6 +3,7 @@
 #![tactic(auto)]
 
 pub mod nodes; // nodes.rt: nodes, one after the other
+pub mod rest; // rest.rt: what is left of the input where a field begins
 
 ghost use Rattle.std.specs.Prelude.{◌≡◌, ◌+◌, ◌<◌, ◌≤◌, Some, None, cond, length, get_or, drop};
 ghost use Rattle.sets.specs.Bits.{inserted};
@@ -13,6 +14,7 @@ ghost use Rattle.reader.specs.Found.{sized_by, equation_good, freshness_good, as
 ghost use Rattle.reader.specs.Told.{refused_by, FieldsRead, ReadAs};
 
 use crate::nodes::nodes;
+use crate::rest::Rest;
 use field::{AtFront, word};
 use names::{Atom, Variable};
 use numbers::{Reason, Refusal, refuse};
@@ -102,19 +104,13 @@ fn protection(w: u64, c: Counts) -> Option<usize>
 }
 
 // The field at a place of the input as one that is no node.
-fn other(
-    s: &[u8],
-    at: usize,
-    w: u64,
-    c: Counts,
-    places: &mut Places,
-    assumed: &mut Assumed,
-) -> Option<usize>
-    requires { (at < length s.now) × (w ≡ eight (drop at s.now)) × (c.variables ≤ 64) }
-    ensures { OtherStepped (drop at s.now) at c places.old assumed.old result
+fn other(rest: &Rest, c: Counts, places: &mut Places, assumed: &mut Assumed) -> Option<usize>
+    requires { c.variables ≤ 64 }
+    ensures { OtherStepped rest.now.bytes.now rest.now.place c places.old assumed.old result
         places.new assumed.new }
 {
-    if s.len() - at < 3 + word::length(w) {
+    let w = rest.word;
+    if rest.bytes.len() < 3 + word::length(w) {
         return None;
     }
     match word::tag(w) {
@@ -149,13 +145,11 @@ fn counted(w: u64, c: Counts) -> Counts
 }
 
 // The refusal of a field that has a fault.
-fn refusal(s: &[u8], at: usize, c: Counts) -> Option<Refusal>
-    requires { at ≤ length s.now }
-    ensures { refused_by at result ≡ refusal_at (sized_by c) at (drop at s.now) }
+fn refusal(rest: &Rest, c: Counts) -> Option<Refusal>
+    ensures { refused_by rest.now.place result ≡ refusal_at (sized_by c) rest.now.place rest.now.bytes.now }
 {
-    let rest = &s[at..];
-    match field::front(rest) {
-        AtFront::End | AtFront::Cut => Some(refuse(Reason::Cut, at)),
+    match field::front(rest.bytes) {
+        AtFront::End | AtFront::Cut => Some(refuse(Reason::Cut, rest.place)),
         AtFront::Whole(tag, n) => {
             let sizes = Sizes {
                 atoms: c.atoms,
@@ -164,9 +158,9 @@ fn refusal(s: &[u8], at: usize, c: Counts) -> Option<Refusal>
                 equations: c.equations,
                 freshness: c.freshness,
             };
-            match field_says(tag, field::body(rest, n), sizes) {
+            match field_says(tag, field::body(rest.bytes, n), sizes) {
                 Ok(_) => None,
-                Err(reason) => Some(refuse(reason, at)),
+                Err(reason) => Some(refuse(reason, rest.place)),
             }
         }
     }
@@ -189,17 +183,16 @@ fn fields(
     let mut at: usize = 9;
     loop {
         let reached = nodes(s, at, c, places, node_variables);
-        at = reached.place;
+        let rest = reached.rest;
         c.nodes = reached.nodes;
-        if at == s.len() {
+        if rest.bytes.is_empty() {
             return Ok(c);
         }
-        let w = reached.word;
-        let Some(size) = other(s, at, w, c, places, assumed) else {
-            return Err(refusal(s, at, c).unwrap());
+        let Some(size) = other(&rest, c, places, assumed) else {
+            return Err(refusal(&rest, c).unwrap());
         };
-        c = counted(w, c);
-        at += size;
+        c = counted(rest.word, c);
+        at = rest.place + size;
     }
 }
 

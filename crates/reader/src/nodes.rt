@@ -8,6 +8,7 @@ ghost use Rattle.reader.specs.Found.{unit_good, atom_good, abstraction_good, pai
 ghost use Rattle.reader.specs.Found.{suspension_good, with_nodes, Kept, Seen, NodeStepped};
 ghost use Rattle.reader.specs.Onward.{NodesAsked, NodesRead};
 
+use crate::rest::Rest;
 use field::word;
 use names::{MOST_NODES, NodeId, Variable};
 use problem::{Counts, Places, keep};
@@ -15,12 +16,11 @@ use says::all_below;
 use sets::VariableSet;
 use variables::NodeVariables;
 
-// Where the first field stands that is not such a node, how many nodes there are then, and that field's first eight bytes.
+// Where the first field stands that is not such a node, and how many nodes there are then.
 #[derive(Clone, Copy)]
-pub struct Reached {
-    pub place: usize,
+pub struct Reached<'a> {
+    pub rest: Rest<'a>,
     pub nodes: u16,
-    pub word: u64,
 }
 
 // Node n is put down: what is kept of its field, and its variables.
@@ -149,86 +149,82 @@ fn application(
 }
 
 // The size of a suspension's field with swaps, if its length fits, it is whole and every swap's atoms are there.
-fn with_swaps(s: &[u8], at: usize, w: u64, atoms: u8) -> Option<usize>
-    requires { at ≤ length s.now }
-    ensures { result ≡ cond (swaps_good atoms (drop at s.now) (length_in w)) (Some (3 + length_in w)) None }
+fn with_swaps(rest: &Rest, atoms: u8) -> Option<usize>
+    ensures { result ≡ cond (swaps_good atoms rest.now.bytes.now (length_in rest.now.word)) (Some (3 + length_in rest.now.word)) None }
 {
-    let n = word::length(w);
+    let n = word::length(rest.word);
     if n % 2 != 1 {
         return None;
     }
     if n > 65 {
         return None;
     }
-    if s.len() - at < 3 + n {
+    if rest.bytes.len() < 3 + n {
         return None;
     }
-    if !all_below(&s[at + 4..at + 3 + n], atoms) {
+    if !all_below(&rest.bytes[4..3 + n], atoms) {
         return None;
     }
     Some(3 + n)
 }
 
 // The same for any: most have no swaps.
-fn permuted(s: &[u8], at: usize, w: u64, atoms: u8) -> Option<usize>
-    requires { at ≤ length s.now }
-    ensures { result ≡ cond (permutation_good atoms (drop at s.now) w) (Some (3 + length_in w)) None }
+fn permuted(rest: &Rest, atoms: u8) -> Option<usize>
+    ensures { result ≡ cond (permutation_good atoms rest.now.bytes.now rest.now.word) (Some (3 + length_in rest.now.word)) None }
 {
-    if word::key(w) == 0x150001 {
+    if word::key(rest.word) == 0x150001 {
         return Some(4);
     }
-    with_swaps(s, at, w, atoms)
+    with_swaps(rest, atoms)
 }
 
 fn suspension(
-    s: &[u8],
-    at: usize,
-    w: u64,
+    rest: &Rest,
     c: Counts,
     n: u16,
     places: &mut Places,
     node_variables: &mut NodeVariables,
 ) -> Option<usize>
-    requires { (n < 512) × (at ≤ length s.now) × (length s.now ≤ 65535) }
-    ensures { Kept (suspension_good c.atoms c.variables (drop at s.now) w) (3 + length_in w) n (with_place at w) result
-        places.old places.new
-        × Kept (suspension_good c.atoms c.variables (drop at s.now) w) (3 + length_in w) n (inserted 64 0 (first_byte_in w)) result
-        node_variables.old node_variables.new }
+    requires { n < 512 }
+    ensures { Kept (suspension_good c.atoms c.variables rest.now.bytes.now rest.now.word) (3 + length_in rest.now.word) n
+        (with_place rest.now.place rest.now.word) result places.old places.new
+        × Kept (suspension_good c.atoms c.variables rest.now.bytes.now rest.now.word) (3 + length_in rest.now.word) n
+        (inserted 64 0 (first_byte_in rest.now.word)) result node_variables.old node_variables.new }
 {
-    if word::first_byte(w) >= c.variables {
+    let x = word::first_byte(rest.word);
+    if x >= c.variables {
         return None;
     }
-    let size = permuted(s, at, w, c.atoms)?;
-    keep::put_suspension(places, usize::from(n), w, at as u16);
+    let size = permuted(rest, c.atoms)?;
+    keep::put_suspension(places, usize::from(n), rest.word, rest.place as u16);
     variables::put(
         node_variables,
         usize::from(n),
-        VariableSet::empty().with(Variable(word::first_byte(w))),
+        VariableSet::empty().with(Variable(x)),
     );
     Some(size)
 }
 
 // The field as node n.
 fn node(
-    s: &[u8],
-    at: usize,
-    w: u64,
+    rest: &Rest,
     c: Counts,
     n: u16,
     places: &mut Places,
     node_variables: &mut NodeVariables,
 ) -> Option<usize>
-    requires { (n < 512) × (at ≤ length s.now) × (length s.now ≤ 65535) × (w ≡ eight (drop at s.now)) × Seen (drop at s.now) }
-    ensures { NodeStepped (drop at s.now) at (with_nodes c n) places.old node_variables.old result
+    requires { (n < 512) × Seen rest.now.bytes.now }
+    ensures { NodeStepped rest.now.bytes.now rest.now.place (with_nodes c n) places.old node_variables.old result
         places.new node_variables.new }
 {
+    let w = rest.word;
     match word::tag(w) {
         0x10 => unit(w, n, places, node_variables),
         0x11 => atom(w, n, c.atoms, places, node_variables),
         0x12 => abstraction(w, n, c.atoms, places, node_variables),
         0x13 => pair(w, n, places, node_variables),
         0x14 => application(w, n, places, node_variables),
-        0x15 => suspension(s, at, w, c, n, places, node_variables),
+        0x15 => suspension(rest, c, n, places, node_variables),
         _ => None,
     }
 }
@@ -236,38 +232,35 @@ fn node(
 // The same for any bytes that are left: a node whose length fits and that is no suspension with swaps has less than eight bytes, so only where fewer are
 // left it may be cut.
 fn node_here(
-    s: &[u8],
-    at: usize,
-    w: u64,
+    rest: &Rest,
     c: Counts,
     n: u16,
     places: &mut Places,
     node_variables: &mut NodeVariables,
 ) -> Option<usize>
-    requires { (at ≤ length s.now) × (length s.now ≤ 65535) × (w ≡ eight (drop at s.now)) }
-    ensures { NodeStepped (drop at s.now) at (with_nodes c n) places.old node_variables.old result
+    ensures { NodeStepped rest.now.bytes.now rest.now.place (with_nodes c n) places.old node_variables.old result
         places.new node_variables.new }
 {
-    let left = s.len() - at;
+    let left = rest.bytes.len();
     if left < 8 {
-        if left < 3 + word::length(w) {
+        if left < 3 + word::length(rest.word) {
             return None;
         }
     }
     if usize::from(n) >= MOST_NODES {
         return None;
     }
-    node(s, at, w, c, n, places, node_variables)
+    node(rest, c, n, places, node_variables)
 }
 
 // The slice from each field's end is passed on to the reading of its first bytes.
-pub fn nodes(
-    s: &[u8],
+pub fn nodes<'a>(
+    s: &'a [u8],
     from: usize,
     c: Counts,
     places: &mut Places,
     node_variables: &mut NodeVariables,
-) -> Reached
+) -> Reached<'a>
     requires { NodesAsked s.now from }
     ensures { NodesRead s.now from c places.old node_variables.old result
         places.new node_variables.new }
@@ -275,13 +268,9 @@ pub fn nodes(
     let mut at = from;
     let mut n = c.nodes;
     loop {
-        let w = word::eight(&s[at..]);
-        let Some(size) = node_here(s, at, w, c, n, places, node_variables) else {
-            return Reached {
-                place: at,
-                nodes: n,
-                word: w,
-            };
+        let rest = Rest::at(s, at);
+        let Some(size) = node_here(&rest, c, n, places, node_variables) else {
+            return Reached { rest, nodes: n };
         };
         at += size;
         n += 1;

@@ -4,7 +4,6 @@ use Rattle.std.proofs.Common as std
 use Rattle.field.specs.Field.{front}
 use Rattle.field.specs.Front.{front_of}
 use Rattle.field.specs.declared.AtFront.TheVariants.{Whole, Cut, End}
-use Rattle.field.proofs.Standing.{tail_part}
 use Rattle.field.proofs.Told.{at_end, at_cut, at_whole}
 use Rattle.numbers.specs.declared.Reason.{Reason}
 use Rattle.problem.specs.Reader.{Sizes}
@@ -30,17 +29,15 @@ pub body-requires : goal.body-requires
 body-requires c = (at_whole _ c.in-Whole.tag c.in-Whole.n (sym c.in-Whole.ensures)).1
 
 pub returns-in-End : goal.returns-in-End
-returns-in-End c =
-    rw (c.refuse.ensures, ← tail_part c.args.s.now c.args.at) (is_cut _ _ _ (rw c.front.ensures at c.in-End.is))
+returns-in-End c = rw c.refuse.ensures (is_cut _ _ _ (rw c.front.ensures at c.in-End.is))
 
 pub returns-in-Ok : goal.returns-in-Ok
 returns-in-Ok c =
-    rw (← tail_part c.args.s.now c.args.at)
-    (ap (λ k. record { number = fault_by k; place = c.args.at }) (sym c.in-Ok.is)
-    ∙ is_whole _ _ _ c.in-Whole.tag c.in-Whole.n _ (sym c.in-Whole.ensures) (rw c.body.ensures at c.field_says.ensures))
+    ap (λ k. record { number = fault_by k; place = c.args.rest.now.place }) (sym c.in-Ok.is)
+    ∙ is_whole _ _ _ c.in-Whole.tag c.in-Whole.n _ (sym c.in-Whole.ensures) (rw c.body.ensures at c.field_says.ensures)
 
 pub returns-in-Err : goal.returns-in-Err
 returns-in-Err c =
-    rw (c.refuse-in-Err.ensures, ← tail_part c.args.s.now c.args.at)
-    (ap (λ k. record { number = fault_by k; place = c.args.at }) (sym c.in-Err.is)
+    rw c.refuse-in-Err.ensures
+    (ap (λ k. record { number = fault_by k; place = c.args.rest.now.place }) (sym c.in-Err.is)
     ∙ is_whole _ _ _ c.in-Whole.tag c.in-Whole.n _ (sym c.in-Whole.ensures) (rw c.body.ensures at c.field_says.ensures))
