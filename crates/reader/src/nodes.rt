@@ -16,6 +16,9 @@ use says::all_below;
 use sets::VariableSet;
 use variables::NodeVariables;
 
+// The bound in the type of the count: where the count is widened for it, the compiler keeps it twice, which costs two instructions a node.
+const NODES: u16 = MOST_NODES as u16;
+
 // Where the first field stands that is not such a node, and how many nodes there are then.
 #[derive(Clone, Copy)]
 pub struct Reached<'a> {
@@ -247,7 +250,7 @@ fn node_here(
             return None;
         }
     }
-    if usize::from(n) >= MOST_NODES {
+    if n >= NODES {
         return None;
     }
     node(rest, c, n, places, node_variables)

@@ -14,8 +14,7 @@ returns-then-left-length c =
     none_found
     (cut_node (sized_by (with_nodes c.args.c c.args.n)) rest.bytes.now rest.are_bytes (omega (arith, length_is, c.if-left-length.true))))
 
-pub returns-then-from-ge-MOST_NODES : goal.returns-then-from-ge-MOST_NODES
-returns-then-from-ge-MOST_NODES c =
+pub returns-then-n-ge-NODES : goal.returns-then-n-ge-NODES
+returns-then-n-ge-NODES c =
     let rest = c.args.rest.now in
-    let many = rw c.from.ensures at c.if-from-ge-MOST_NODES.true in
-    (λ assumed. none_found (node_past (sized_by (with_nodes c.args.c c.args.n)) rest.bytes.now rest.are_bytes many))
+    (λ assumed. none_found (node_past (sized_by (with_nodes c.args.c c.args.n)) rest.bytes.now rest.are_bytes c.if-n-ge-NODES.true))
