@@ -25,99 +25,126 @@ const BINDING: usize = 6;
 
 const FACT: usize = 5;
 
+// The lent output, and the index at which the next byte is put.
+#[derive(Drop)]
+struct Writer<'a> {
+    output: &'a mut [u8],
+    at: usize,
+}
+
 // Where a number is cast to a smaller type below it is less than that type holds, as the contracts ask: `try_from` would bring a branch that is never taken.
-fn put(output: &mut [u8], at: usize, b: u8) -> usize
-    requires { at < length output.old }
-    ensures { Wrote output.old at (b ∷ []) result output.new }
-{
-    output[at] = b;
-    at + 1
-}
-
-// All of the bytes, in one piece.
-fn put_all(output: &mut [u8], at: usize, bytes: &[u8]) -> usize
-    requires { at + length bytes.now ≤ length output.old }
-    ensures { Wrote output.old at bytes.now result output.new }
-{
-    let end = at + bytes.len();
-    output[at..end].copy_from_slice(bytes);
-    end
-}
-
-fn put_front(output: &mut [u8], at: usize, tag: u8, n: u16) -> usize
-    requires { at + 3 ≤ length output.old }
-    ensures { Wrote output.old at (tag ∷ bytes2 n) result output.new }
-{
-    let a = put(output, at, tag);
-    put_all(output, a, &n.to_be_bytes())
-}
-
-fn put_steps(output: &mut [u8], at: usize, steps: u32) -> usize
-    requires { at + 7 ≤ length output.old }
-    ensures { Wrote output.old at (steps_field steps) result output.new }
-{
-    let a = put_front(output, at, 0x4e, 4);
-    put_all(output, a, &steps.to_be_bytes())
-}
-
-// The images of x's value, one at a time: its row is read where it lies.
-fn put_images(output: &mut [u8], at: usize, bindings: &Bindings, x: Variable, n: usize) -> usize
-    requires { (n ≤ 32) × (x.0 < 64) × (at + n ≤ length output.old) }
-    ensures { Wrote output.old at (images_of n bindings.now.values.now x.0) result output.new }
-{
-    let mut end = at;
-    for i in 0..n {
-        let a = bindings.image_of(n, x, Atom(i as u8));
-        end = put(output, end, a.0);
+impl<'a> Writer<'a> {
+    fn put(&mut self, b: u8)
+        requires { self.old.at < length self.old.output.now }
+        ensures same { self.new.output.ghost_name ≡ self.old.output.ghost_name }
+        ensures wrote { Wrote self.old.output.now self.old.at (b ∷ []) self.new.at self.new.output.now }
+    {
+        self.output[self.at] = b;
+        self.at += 1;
     }
-    end
-}
 
-fn put_binding(output: &mut [u8], at: usize, bindings: &Bindings, x: Variable, n: usize) -> usize
-    requires { (n ≤ 32) × (x.0 < 64) × (at + (6 + n) ≤ length output.old) }
-    ensures { Wrote output.old at (binding_field (binding_at n (binding_tables bindings.now.made.now bindings.now.values.now) x.0))
-        result output.new }
-{
-    let node = bindings.node_of(x);
-    let a = put_front(output, at, 0x40, 3 + n as u16);
-    let b = put(output, a, x.0);
-    let c = put_all(output, b, &node.0.to_be_bytes());
-    put_images(output, c, bindings, x, n)
-}
-
-fn put_bindings(output: &mut [u8], at: usize, bindings: &Bindings, k: usize, atoms: usize) -> usize
-    requires { ((bound : ℕ) × Keeps bindings.now.made.now k bound) × (atoms ≤ 32)
-        × (at + length (binding_bytes (bindings_of atoms (binding_tables bindings.now.made.now bindings.now.values.now) k)) ≤ length output.old) }
-    ensures { Wrote output.old at (binding_bytes (bindings_of atoms (binding_tables bindings.now.made.now bindings.now.values.now) k))
-        result output.new }
-{
-    let mut end = at;
-    for i in 0..k {
-        let x = bindings.variable_at(i);
-        end = put_binding(output, end, bindings, x, atoms);
+    // All of the bytes, in one piece.
+    fn put_all(&mut self, bytes: &[u8])
+        requires { self.old.at + length bytes.now ≤ length self.old.output.now }
+        ensures same { self.new.output.ghost_name ≡ self.old.output.ghost_name }
+        ensures wrote { Wrote self.old.output.now self.old.at bytes.now self.new.at self.new.output.now }
+    {
+        let end = self.at + bytes.len();
+        self.output[self.at..end].copy_from_slice(bytes);
+        self.at = end;
     }
-    end
-}
 
-fn put_fact(output: &mut [u8], at: usize, a: Atom, x: Variable) -> usize
-    requires { at + 5 ≤ length output.old }
-    ensures { Wrote output.old at (fact_field (a.0, x.0)) result output.new }
-{
-    let b = put_front(output, at, 0x41, 2);
-    put_all(output, b, &[a.0, x.0])
-}
-
-fn put_facts_of(output: &mut [u8], at: usize, atoms: AtomSet, x: Variable) -> usize
-    requires { at + length (fact_bytes_of x.0 atoms.0) ≤ length output.old }
-    ensures { Wrote output.old at (fact_bytes_of x.0 atoms.0) result output.new }
-{
-    let mut end = at;
-    let mut rest = atoms;
-    while !rest.is_empty() {
-        end = put_fact(output, end, rest.lowest(), x);
-        rest = rest.without_lowest();
+    fn front(&mut self, tag: u8, n: u16)
+        requires { self.old.at + 3 ≤ length self.old.output.now }
+        ensures same { self.new.output.ghost_name ≡ self.old.output.ghost_name }
+        ensures wrote { Wrote self.old.output.now self.old.at (tag ∷ bytes2 n) self.new.at self.new.output.now }
+    {
+        self.put(tag);
+        self.put_all(&n.to_be_bytes());
     }
-    end
+
+    fn steps(&mut self, steps: u32)
+        requires { self.old.at + 7 ≤ length self.old.output.now }
+        ensures same { self.new.output.ghost_name ≡ self.old.output.ghost_name }
+        ensures wrote { Wrote self.old.output.now self.old.at (steps_field steps) self.new.at self.new.output.now }
+    {
+        self.front(0x4e, 4);
+        self.put_all(&steps.to_be_bytes());
+    }
+
+    // The images of x's value, one at a time: its row is read where it lies.
+    fn images(&mut self, bindings: &Bindings, x: Variable, n: usize)
+        requires { (n ≤ 32) × (x.0 < 64) × (self.old.at + n ≤ length self.old.output.now) }
+        ensures same { self.new.output.ghost_name ≡ self.old.output.ghost_name }
+        ensures wrote { Wrote self.old.output.now self.old.at (images_of n bindings.now.values.now x.0) self.new.at self.new.output.now }
+    {
+        for i in 0..n {
+            let a = bindings.image_of(n, x, Atom(i as u8));
+            self.put(a.0);
+        }
+    }
+
+    fn binding(&mut self, bindings: &Bindings, x: Variable, n: usize)
+        requires { (n ≤ 32) × (x.0 < 64) × (self.old.at + (6 + n) ≤ length self.old.output.now) }
+        ensures same { self.new.output.ghost_name ≡ self.old.output.ghost_name }
+        ensures wrote { Wrote self.old.output.now self.old.at (binding_field (binding_at n (binding_tables bindings.now.made.now bindings.now.values.now) x.0))
+            self.new.at self.new.output.now }
+    {
+        let node = bindings.node_of(x);
+        self.front(0x40, 3 + n as u16);
+        self.put(x.0);
+        self.put_all(&node.0.to_be_bytes());
+        self.images(bindings, x, n);
+    }
+
+    fn bindings(&mut self, bindings: &Bindings, k: usize, atoms: usize)
+        requires { ((bound : ℕ) × Keeps bindings.now.made.now k bound) × (atoms ≤ 32)
+            × (self.old.at + length (binding_bytes (bindings_of atoms (binding_tables bindings.now.made.now bindings.now.values.now) k))
+            ≤ length self.old.output.now) }
+        ensures same { self.new.output.ghost_name ≡ self.old.output.ghost_name }
+        ensures wrote { Wrote self.old.output.now self.old.at (binding_bytes (bindings_of atoms (binding_tables bindings.now.made.now bindings.now.values.now) k))
+            self.new.at self.new.output.now }
+    {
+        for i in 0..k {
+            let x = bindings.variable_at(i);
+            self.binding(bindings, x, atoms);
+        }
+    }
+
+    fn fact(&mut self, a: Atom, x: Variable)
+        requires { self.old.at + 5 ≤ length self.old.output.now }
+        ensures same { self.new.output.ghost_name ≡ self.old.output.ghost_name }
+        ensures wrote { Wrote self.old.output.now self.old.at (fact_field (a.0, x.0)) self.new.at self.new.output.now }
+    {
+        self.front(0x41, 2);
+        self.put_all(&[a.0, x.0]);
+    }
+
+    fn facts_of(&mut self, atoms: AtomSet, x: Variable)
+        requires { self.old.at + length (fact_bytes_of x.0 atoms.0) ≤ length self.old.output.now }
+        ensures same { self.new.output.ghost_name ≡ self.old.output.ghost_name }
+        ensures wrote { Wrote self.old.output.now self.old.at (fact_bytes_of x.0 atoms.0) self.new.at self.new.output.now }
+    {
+        let mut rest = atoms;
+        while !rest.is_empty() {
+            self.fact(rest.lowest(), x);
+            rest = rest.without_lowest();
+        }
+    }
+
+    fn facts(&mut self, asked: &Asked, bound: VariableSet, atoms: usize, variables: usize)
+        requires { (variables ≤ 64) × (atoms ≤ 32)
+            × (self.old.at + length (fact_bytes (facts_in atoms variables bound.0 (asked_of_variables asked.now))) ≤ length self.old.output.now) }
+        ensures same { self.new.output.ghost_name ≡ self.old.output.ghost_name }
+        ensures wrote { Wrote self.old.output.now self.old.at (fact_bytes (facts_in atoms variables bound.0 (asked_of_variables asked.now)))
+            self.new.at self.new.output.now }
+    {
+        for x in 0..variables {
+            let variable = Variable(x as u8);
+            let facts = fact_set(asked, bound, variable, atoms);
+            self.facts_of(facts, variable);
+        }
+    }
 }
 
 // The atoms that are facts of the variable x.
@@ -129,28 +156,6 @@ fn fact_set(asked: &Asked, bound: VariableSet, x: Variable, atoms: usize) -> Ato
         return AtomSet::empty();
     }
     AtomSet::below(atoms as u8).intersection(demands::of_variable(asked, x))
-}
-
-fn put_facts(
-    output: &mut [u8],
-    at: usize,
-    asked: &Asked,
-    bound: VariableSet,
-    atoms: usize,
-    variables: usize,
-) -> usize
-    requires { (variables ≤ 64) × (atoms ≤ 32)
-        × (at + length (fact_bytes (facts_in atoms variables bound.0 (asked_of_variables asked.now))) ≤ length output.old) }
-    ensures { Wrote output.old at (fact_bytes (facts_in atoms variables bound.0 (asked_of_variables asked.now)))
-        result output.new }
-{
-    let mut end = at;
-    for x in 0..variables {
-        let variable = Variable(x as u8);
-        let facts = fact_set(asked, bound, variable, atoms);
-        end = put_facts_of(output, end, facts, variable);
-    }
-    end
 }
 
 fn count_facts(asked: &Asked, bound: VariableSet, atoms: usize, variables: usize) -> usize
@@ -188,7 +193,9 @@ pub fn write(
     if output.len() < wanted {
         return Err(numbers::refuse(Reason::TooShort, wanted));
     }
-    let a = put_steps(output, 0, steps);
-    let b = put_bindings(output, a, bindings, k, atoms);
-    Ok(put_facts(output, b, asked, bound, atoms, variables))
+    let mut writer = Writer { output, at: 0 };
+    writer.steps(steps);
+    writer.bindings(bindings, k, atoms);
+    writer.facts(asked, bound, atoms, variables);
+    Ok(writer.at)
 }

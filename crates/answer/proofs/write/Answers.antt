@@ -1,10 +1,12 @@
 -- The length wanted is the answer's, so that an answer that fits is written whole, and of any other no byte.
-use Rattle.std.proofs.Common.{arith}
+use Rattle.std.proofs.Common.{arith, Ok, rules, ◌≡◌}
 use Rattle.bindings.specs.Bindings.{binding_tables, bindings_of}
 use Rattle.demands.specs.Demands.{asked_of_variables}
+use Rattle.run.specs.Answer.{answer_bytes, written}
+use Rattle.numbers.specs.Numbers.{result_of}
 use Rattle.run.proofs.Written.{length_fact_bytes}
 use Rattle.answer.specs.Facts.{facts_in}
-use Rattle.answer.proofs.Writing.{wrote_same, ◌then◌}
+use Rattle.answer.proofs.Writing.{wrote_length, wrote_same, ◌then◌}
 use Rattle.answer.proofs.Fields.{answer_fields, length_steps_field}
 use Rattle.answer.proofs.Facts.{few_facts}
 use Rattle.answer.proofs.Answer.{bindings_few, length_bindings, length_answer, written_whole, written_short}
@@ -41,23 +43,25 @@ returns-then-output-wanted c =
     let wanted = length_answer a.atoms (binding_tables a.bindings.now.made.now a.bindings.now.values.now) a.k a.bound.0 c.requires.0 a.steps facts in
     written_short _ _ _ c.refuse.ensures (omega (arith, wanted)) (omega (arith, wanted))
 
-pub put_bindings-b-requires : goal.put_bindings-b-requires
-put_bindings-b-requires c =
+pub bindings-requires : goal.bindings-requires
+bindings-requires c =
     let a = c.args in
     let t = binding_tables a.bindings.now.made.now a.bindings.now.values.now in (
       (a.bound.0, c.requires.0),
       c.requires.1,
-      omega (arith, length_steps_field a.steps, length_bindings a.atoms t a.k a.bound.0 c.requires.0),
+      omega (arith, wrote_length c.steps.ensures.wrote, length_steps_field a.steps, length_bindings a.atoms t a.k a.bound.0 c.requires.0),
     )
 
-pub put_facts-requires : goal.put_facts-requires
-put_facts-requires c =
+pub facts-requires : goal.facts-requires
+facts-requires c =
     let a = c.args in
     let facts = facts_in a.atoms a.variables a.bound.0 (asked_of_variables a.asked.now) in (
       c.requires.2,
       c.requires.1,
       omega (
         arith,
+        wrote_length c.steps.ensures.wrote,
+        wrote_length c.bindings.ensures.wrote,
         length_steps_field a.steps,
         length_bindings a.atoms (binding_tables a.bindings.now.made.now a.bindings.now.values.now) a.k a.bound.0 c.requires.0,
         length_fact_bytes facts,
@@ -69,6 +73,8 @@ returns c =
     let a = c.args in
     let bindings = bindings_of a.atoms (binding_tables a.bindings.now.made.now a.bindings.now.values.now) a.k in
     let facts = facts_in a.atoms a.variables a.bound.0 (asked_of_variables a.asked.now) in
+    let all : result_of (Ok c.facts.new.self.at) c.facts.new.self.output.now ≡ written (answer_bytes a.steps bindings facts) a.output.now =
     written_whole _ _ _ _
-    (wrote_same (answer_fields a.steps bindings facts) (c.put_steps-a.ensures then c.put_bindings-b.ensures then c.put_facts.ensures))
-    (omega (arith, length_answer a.atoms (binding_tables a.bindings.now.made.now a.bindings.now.values.now) a.k a.bound.0 c.requires.0 a.steps facts))
+    (wrote_same (answer_fields a.steps bindings facts) (c.steps.ensures.wrote then c.bindings.ensures.wrote then c.facts.ensures.wrote))
+    (omega (arith, length_answer a.atoms (binding_tables a.bindings.now.made.now a.bindings.now.values.now) a.k a.bound.0 c.requires.0 a.steps facts)) in
+    search rules

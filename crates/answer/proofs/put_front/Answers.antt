@@ -1,8 +1,0 @@
--- The tag and the length.
-use Rattle.std.proofs.Common.{◌∙◌}
-use Rattle.answer.proofs.Writing.{wrote_same, ◌then◌}
-use Rattle.answer.proofs.Fields.{two_bytes}
-use Rattle.answer.proofs.put_front.Goals as goal
-
-pub returns : goal.returns
-returns c = c.put-a.ensures then wrote_same (c.to_be_bytes.ensures ∙ two_bytes c.args.n) c.put_all.ensures
