@@ -13,7 +13,7 @@ ghost use Rattle.demands.specs.Demands.{NodeRaised, SideRaised, VariableRaised};
 
 use names::{Atom, MOST_ATOMS, MOST_NODES, MOST_VARIABLES, NodeId, Variable};
 use permutation::Permutation;
-use sets::AtomSet;
+use sets::{AtomSet, Set};
 
 // By node, or by variable, the atoms that must be fresh for it.
 pub type Sets = [u32; MOST_NODES];
@@ -60,13 +60,13 @@ pub fn of_node(asked: &Asked, n: NodeId) -> AtomSet
     requires { n.0 < 512 }
     ensures { result.0 ≡ asked_of_node asked.now n.0 }
 {
-    AtomSet(asked[NODES][usize::from(n.0)])
+    Set(asked[NODES][usize::from(n.0)])
 }
 
 pub fn of_variable(asked: &Asked, x: Variable) -> AtomSet
     ensures { result.0 ≡ asked_of_variable asked.now x.0 }
 {
-    AtomSet(asked[VARIABLES][usize::from(x.0)])
+    Set(asked[VARIABLES][usize::from(x.0)])
 }
 
 // Whether one of the first n sets has an atom. They are joined with no test between them, so that many are taken at once.
@@ -76,7 +76,7 @@ pub fn any(sets: &[u32], n: usize) -> bool
 {
     let mut all = AtomSet::empty();
     for i in 0..n {
-        all = all.union(AtomSet(sets[i]));
+        all = all.union(Set(sets[i]));
     }
     !all.is_empty()
 }
@@ -114,7 +114,7 @@ fn mark(sets: &mut [u32], numbers: &mut [u8], i: usize, a: Atom, number: u8)
     ensures { line sets.new numbers.new
         ≡ line_marked i number a.0 (line sets.old numbers.old) }
 {
-    let asked = AtomSet(sets[i]);
+    let asked = Set(sets[i]);
     if asked.has(a) {
         return;
     }
@@ -128,7 +128,7 @@ fn mark_all(sets: &mut [u32], numbers: &mut [u8], i: usize, atoms: AtomSet, numb
     ensures { line sets.new numbers.new
         ≡ line_marked_all i number (members 32 atoms.0) (line sets.old numbers.old) }
 {
-    let mut rest = atoms.minus(AtomSet(sets[i]));
+    let mut rest = atoms.minus(Set(sets[i]));
     while !rest.is_empty() {
         mark(sets, numbers, i, rest.lowest(), number);
         rest = rest.without_lowest();

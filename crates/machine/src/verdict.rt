@@ -13,7 +13,7 @@ use demands::{Asked, Firsts};
 use numbers::{ACCEPTED, Given, LIMIT, give};
 use perform::{Outcome, State};
 use problem::{Counts, Places};
-use sets::VariableSet;
+use sets::{Set, VariableSet};
 use stack::{Heads, Images};
 use variables::NodeVariables;
 
@@ -94,7 +94,7 @@ fn go(
     Ran {
         verdict: v,
         steps: steps,
-        bound: VariableSet(state.bound.0),
+        bound: Set(state.bound.0),
         count: state.count,
     }
 }

@@ -12,7 +12,7 @@ use Rattle.permutation.specs.declared.Permutation.{Permutation}
 use Rattle.permutation.proofs.Table.{identity_after, inverted_identity}
 use Rattle.permutation.proofs.Store.{length_table, table_after, table_inverted, table_swapped_after, members_disagreement}
 use Rattle.sets.specs.Bits.{members, of_list}
-use Rattle.sets.specs.declared.VariableSet.{VariableSet}
+use Rattle.sets.specs.declared.Set.{Set}
 use Rattle.problem.specs.Held.{problem_of}
 use Rattle.run.specs.Meaning.{Side}
 use Rattle.run.specs.Run.{Equation, of_variable, of_side, under, Refusal, clash, inside, protection}
@@ -76,7 +76,7 @@ pub value_is : (s : List ℕ) (A : ℕ) (P : Table) (m : ℕ) (outer q images : 
 unfolding side_of
 value_is s A P m outer q images k is_outer is_images = rw (is_images, is_outer) refl
 
-pub bound_to : {A number X : ℕ} {v : Side} {before after : Bindings} {state : State} {value : Value} {more : VariableSet}
+pub bound_to : {A number X : ℕ} {v : Side} {before after : Bindings} {state : State} {value : Value} {more : Set ℕ}
     → Added before state.count state.bound.0 X value number after more.0 → side_of A value ≡ v
     → BoundTo A number X v before state after (gone_to state.waiting more (state.count + 1))
 bound_to {value = value} added same = record { value = value; same = same; added = added; gone = refl }

@@ -3,7 +3,7 @@ use Rattle.std.specs.Prelude.{ℕ, ◌+◌, ◌≤◌, ◌<◌, ◌≡◌, false
 use Rattle.permutation.specs.Table.{Table, disagreement}
 use Rattle.permutation.specs.Store.{table}
 use Rattle.sets.specs.Bits.{member}
-use Rattle.sets.specs.declared.VariableSet.{VariableSet}
+use Rattle.sets.specs.declared.Set.{Set}
 use Rattle.problem.specs.Held.{problem_of}
 use Rattle.problem.specs.Look.{Standing, form_now, Suspended}
 use Rattle.run.specs.Meaning.{Side}
@@ -38,7 +38,7 @@ tables_in w =
     (sheet w.demands.asked.now w.demands.firsts.now)
 
 -- How far the run is after a step that went on.
-abbrev pub gone_to : ℕ → VariableSet → ℕ → State
+abbrev pub gone_to : ℕ → Set ℕ → ℕ → State
 gone_to waiting bound count = record { waiting = waiting; bound = bound; count = count }
 
 -- The run's own refusals among the table's rows.

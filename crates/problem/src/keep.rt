@@ -4,7 +4,7 @@ ghost use Rattle.sets.specs.Bits.{inserted};
 ghost use Rattle.problem.specs.Held.{with_place};
 
 use names::{Atom, Variable};
-use sets::AtomSet;
+use sets::Set;
 
 // One atom more is assumed fresh for a variable.
 pub fn assume(assumed: &mut [u32], a: Atom, x: Variable)
@@ -13,7 +13,7 @@ pub fn assume(assumed: &mut [u32], a: Atom, x: Variable)
         ≡ set assumed.old x.0 (inserted 32 (get_or assumed.old x.0 0) a.0) }
 {
     let i = usize::from(x.0);
-    let atoms = AtomSet(assumed[i]).with(a);
+    let atoms = Set(assumed[i]).with(a);
     assumed[i] = atoms.0;
 }
 

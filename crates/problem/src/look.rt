@@ -9,7 +9,7 @@ ghost use Rattle.problem.specs.Look.{EquationStands, equation_now, equation_told
 use crate::{Assumed, EQUATIONS, FRESHNESS, Form, Input, Places};
 use field::word;
 use names::{Atom, NodeId, Variable};
-use sets::AtomSet;
+use sets::{AtomSet, Set};
 
 #[derive(Clone, Copy, PartialEq, Eq)]
 pub struct Equation {
@@ -59,7 +59,7 @@ pub fn assumed_for(assumed: &Assumed, x: Variable) -> AtomSet
     requires { x.0 < 64 }
     ensures { result.0 ≡ assumed_for assumed.now x.0 }
 {
-    AtomSet(assumed[usize::from(x.0)])
+    Set(assumed[usize::from(x.0)])
 }
 
 impl<'a> Input<'a> {

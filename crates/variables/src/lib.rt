@@ -5,7 +5,7 @@ ghost use Rattle.std.specs.Prelude.{◌≡◌, ◌<◌, length, set};
 ghost use Rattle.variables.specs.Variables.{set_of};
 
 use names::{MOST_NODES, NodeId};
-use sets::VariableSet;
+use sets::{Set, VariableSet};
 
 pub type NodeVariables = [u64; MOST_NODES];
 
@@ -17,7 +17,7 @@ pub fn of_node(node_variables: &NodeVariables, node: NodeId) -> VariableSet
     ensures { result.0 ≡ set_of node_variables.now node.0 }
 {
     let n = usize::from(node.0);
-    VariableSet(node_variables[n])
+    Set(node_variables[n])
 }
 
 // The set is put down for node n. The table comes as a slice: so its length is known.

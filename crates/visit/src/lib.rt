@@ -12,7 +12,7 @@ ghost use Rattle.visit.specs.Parts.{InWord, Late, with_late, SuspendedAt, Came, 
 use demands::Sets;
 use names::{Atom, MOST_NODES, NodeId, Variable};
 use problem::{Form, Input, Places, look};
-use sets::AtomSet;
+use sets::{AtomSet, Set};
 
 // Nodes as bits, 64 to a word: the suspensions with swaps that atoms came to. They wait until all parts are visited, since their swaps stand in the input.
 const WORDS: usize = MOST_NODES / 64;
@@ -24,7 +24,7 @@ pub fn atoms_at(rows: &[u32], i: usize) -> AtomSet
     requires { i < length rows.now }
     ensures { result.0 ≡ get_or rows.now i 0 }
 {
-    AtomSet(rows[i])
+    Set(rows[i])
 }
 
 // More atoms in row i.
@@ -33,7 +33,7 @@ pub fn add_atoms(rows: &mut [u32], i: usize, more: AtomSet)
     requires { i < length rows.old }
     ensures { rows.new ≡ added rows.old i more.0 }
 {
-    let r = AtomSet(rows[i]).union(more);
+    let r = Set(rows[i]).union(more);
     rows[i] = r.0;
 }
 
@@ -189,7 +189,7 @@ fn parts(
         (Marked (problem_of t.input) seen.new on_variables.new) late.old late.new }
 {
     let n = usize::from(node);
-    let new = AtomSet(atoms).minus(atoms_at(seen, n));
+    let new = Set(atoms).minus(atoms_at(seen, n));
     if new.is_empty() {
         return;
     }

@@ -1,6 +1,6 @@
 use Rattle.std.proofs.Common.{ℕ, ◌∙◌, ap, sym, arith}
 use Rattle.sets.specs.Bits.{member, inserted}
-use Rattle.sets.specs.declared.AtomSet.{AtomSet}
+use Rattle.sets.specs.declared.Set.{Set}
 use Rattle.permutation.specs.Table.{image}
 use Rattle.bindings.specs.Bindings.{images_of}
 use Rattle.fresh.proofs.Images.{sent_none, sent_with, sent_without}
@@ -17,7 +17,7 @@ loop-i-preserved c =
     let sends = image (images_of c.args.n c.args.bindings.now.values.now c.args.x.0) in
     let tested = ap (member atoms) (sym c.image_of.ensures) ∙ sym c.has.ensures in
     elim c.if-has.branch [
-      | then-has w ↦ ap (λ (s : AtomSet). s.0) w.r-is ∙ w.with-r.ensures ∙ ap (λ (k : ℕ). inserted 32 k i) c.loop-i.invariant
+      | then-has w ↦ ap (λ (s : Set ℕ). s.0) w.r-is ∙ w.with-r.ensures ∙ ap (λ (k : ℕ). inserted 32 k i) c.loop-i.invariant
           ∙ sent_with i sends atoms (omega arith) (tested ∙ w.if-has.true)
-      | else-has w ↦ ap (λ (s : AtomSet). s.0) w.r-is ∙ c.loop-i.invariant ∙ sent_without i sends atoms (tested ∙ w.if-has.false)
+      | else-has w ↦ ap (λ (s : Set ℕ). s.0) w.r-is ∙ c.loop-i.invariant ∙ sent_without i sends atoms (tested ∙ w.if-has.false)
     ]

@@ -4,7 +4,7 @@ use Rattle.std.proofs.lemmas.Result.{err_from_is_err_and}
 use Rattle.numbers.specs.declared.Reason.{Reason}
 use Rattle.numbers.specs.declared.Refusal.{Refusal}
 use Rattle.opening.specs.declared.Head.{Head}
-use Rattle.sets.specs.declared.VariableSet.{VariableSet}
+use Rattle.sets.specs.declared.Set.{Set}
 use Rattle.problem.specs.Reader.{started}
 use Rattle.problem.specs.Told.{counts_of}
 use Rattle.reader.specs.Tables.{reader_tables, sets_cleared}
@@ -24,7 +24,7 @@ module _ (P : Reason → Refusal → Type 0) where
   mapped_err (Ok x) m f q e = absurd (cc)
   mapped_err (Err y) m f q e = (y, refl, rw e at q)
 
-no_fields : (h : Head) (p : VariableSet) → p.0 ≡ 0
+no_fields : (h : Head) (p : Set ℕ) → p.0 ≡ 0
     → record {
       atoms = h.atoms;
       variables = h.variables;
