@@ -208,7 +208,7 @@ fn suspension(
     Some(size)
 }
 
-// The field as node n.
+// The field as node n. The tags are document 01's own numbers: an enum of them would need this match to make it, and a second one to use it.
 fn node(
     rest: &Rest,
     c: Counts,
