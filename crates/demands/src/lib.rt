@@ -4,7 +4,6 @@
 #![tactic(auto)]
 
 ghost use Rattle.std.specs.Prelude.{◌≡◌, false, ℕ, ◌≤◌, ◌<◌, length, get_or};
-ghost use Rattle.permutation.specs.Table.{image, inverted};
 ghost use Rattle.permutation.specs.Store.{table};
 ghost use Rattle.sets.specs.Bits.{member, members};
 ghost use Rattle.demands.specs.Demands.{line, line_marked, line_marked_all, sheet, emptied, demands_cleared};
@@ -75,8 +74,13 @@ pub fn any(sets: &[u32], n: usize) -> bool
     ensures { result ≡ false → (i : ℕ) → i < n → (a : ℕ) → member (get_or sets.now i 0) a ≡ false }
 {
     let mut all = AtomSet::empty();
+<<<<<<< HEAD
     for i in 0..n {
         all = all.union(Set(sets[i]));
+=======
+    for atoms in &sets[..n] {
+        all = all.union(Set(*atoms));
+>>>>>>> ebce0e2c172edc4a8b5c70406222ef303f693433
     }
     !all.is_empty()
 }
@@ -135,20 +139,6 @@ fn mark_all(sets: &mut [u32], numbers: &mut [u8], i: usize, atoms: AtomSet, numb
     }
 }
 
-// The atom whose image is a: of several the first counts, and it is 0 if there is none, as in the inverse.
-fn preimage(p: Permutation, n: usize, a: Atom) -> Atom
-    requires { (n ≤ 32) × (a.0 < n) }
-    ensures { result.0 ≡ image (inverted (table n p)) a.0 }
-{
-    for i in 0..n {
-        let c = Atom(i as u8);
-        if permutation::image(p, n, c) == a {
-            return c;
-        }
-    }
-    Atom(0)
-}
-
 // The two tables, lent together.
 #[derive(Drop)]
 pub struct Demands<'a> {
@@ -163,7 +153,7 @@ impl<'a> Demands<'a> {
         ensures { SideRaised a.0 (table atoms p) node.0 number
             (sheet self.old.asked.now self.old.firsts.now) (sheet self.new.asked.now self.new.firsts.now) }
     {
-        let b = preimage(p, atoms, a);
+        let b = rows::preimage(&rows::keep(p), atoms, a);
         self.raise_node(b, node, number);
     }
 

@@ -9,6 +9,12 @@ use Rattle.intake.specs.declared.Unread as intake
 use Rattle.exchange.specs.declared.Worked.{Worked}
 use Rattle.exchange.specs.declared.Served.{Served}
 
+-- What there is to give back for a problem: number, place and lines.
+pub record Gives : Type 0 where
+  pub number : ℕ
+  pub place : ℕ
+  pub text : List ℕ
+
 -- The lines stand whole at the start of the room.
 pub record Works (n p : ℕ) (text out : List ℕ) (w : Worked) : Type 0 where
   pub number : w.given.number ≡ n
@@ -29,9 +35,12 @@ pub record Unread (before after : List ℕ) (u : intake.Unread) : Type 0 where
   pub unread : failed_of u.last.got ≡ true
   pub kept : after ≡ before
 
-abbrev pub Serves : ℕ → ℕ → List ℕ → List ℕ → List ℕ → List ℕ → Result Served intake.Unread → Type 0
-Serves n p text problem before after (Ok s) = Answered n p text problem after s
-Serves n p text problem before after (Err u) = Unread before after u
+-- What is given back is for the bytes that were read, which are those that the reads left at the start of the input; the room is given before and after.
+abbrev pub Serves : (List ℕ → Gives) → List ℕ → List ℕ → List ℕ → Result Served intake.Unread → Type 0
+Serves gives input before after (Ok s) =
+    let problem : List ℕ = take s.filled.count input in
+    Answered (gives problem).number (gives problem).place (gives problem).text problem after s
+Serves gives input before after (Err u) = Unread before after u
 
 -- How the problem was read; what was told of it, and what was written of a room.
 abbrev pub reading_of : Result Served intake.Unread → Result Filled intake.Unread

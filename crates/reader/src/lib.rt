@@ -103,7 +103,7 @@ fn protection(w: u64, c: Counts) -> Option<usize>
     Some(4)
 }
 
-// The field at a place of the input as one that is no node.
+// The field at a place of the input as one that is no node. Its tag stays a number, as a node's does.
 fn other(rest: &Rest, c: Counts, places: &mut Places, assumed: &mut Assumed) -> Option<usize>
     requires { c.variables ≤ 64 }
     ensures { OtherStepped rest.now.bytes.now rest.now.place c places.old assumed.old result

@@ -26,7 +26,8 @@ pub struct Reached<'a> {
     pub nodes: u16,
 }
 
-// Node n is put down: what is kept of its field, and its variables.
+// Node n is put down: what is kept of its field, and its variables. The two tables go beside each other: in one struct of references each function here
+// would have to promise as well that it leaves these two references in it, since `read` says what is behind them in the end. That is no plainer.
 fn put(
     places: &mut Places,
     node_variables: &mut NodeVariables,
@@ -208,7 +209,7 @@ fn suspension(
     Some(size)
 }
 
-// The field as node n.
+// The field as node n. The tags are document 01's own numbers: an enum of them would need this match to make it, and a second one to use it.
 fn node(
     rest: &Rest,
     c: Counts,

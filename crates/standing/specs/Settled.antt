@@ -46,7 +46,8 @@ written_of (Err (Unwritten filled unwritten)) = unwritten.count
 abbrev pub Settled : ℕ → List ℕ → List ℕ → Result Turn Stop → Result Taken Ending → Type 0
 Settled count out after (Ok turn) r = (r ≡ standing_of turn.frame.filled turn.taken) × (after ≡ out)
 Settled count out after (Err (stop.End filled)) r = r ≡ Err (Through filled)
-Settled count out after (Err (stop.Cut filled)) r = (taken : Result Taken outlet.Unwritten) × Handed (cut_line count) after taken × (r ≡ Err (cut_of filled taken))
+Settled count out after (Err (stop.Cut filled)) r =
+    (taken : Result Taken outlet.Unwritten) × Handed (cut_line count) after taken × (r ≡ Err (cut_of filled taken))
 Settled count out after (Err (stop.Unreadable unread)) r = r ≡ Err (Unreadable unread)
 
 -- What the last read answered: of a turn, and of an ending.

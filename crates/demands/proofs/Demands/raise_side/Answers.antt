@@ -2,6 +2,7 @@ use Rattle.std.proofs.Common.{◌≡◌, arith, rules, length}
 use Rattle.permutation.specs.Table.{Table}
 use Rattle.permutation.specs.Store.{table}
 use Rattle.permutation.proofs.Store.{length_table}
+use Rattle.rows.proofs.Rows.{images_in_kept}
 use Rattle.demands.proofs.Laws.{inverted_lt, side_raised}
 use Rattle.demands.proofs.Demands.raise_side.Goals as goal
 
@@ -11,7 +12,8 @@ raise_node-requires c =
     let whole : length c.args.p.images ≡ 32 = search rules in
     let long : length images ≡ c.args.atoms = length_table c.args.atoms c.args.p (omega (arith, c.requires.0)) in
     let sent = inverted_lt images c.args.a.0 (rw long c.requires.1) in
-    (omega (arith, c.preimage-b.ensures, long, c.requires.0, sent), c.requires.2)
+    let same = rw (c.keep.ensures, images_in_kept) at c.preimage-b.ensures in
+    (omega (arith, same, long, c.requires.0, sent), c.requires.2)
 
 pub returns : goal.returns
-returns c = side_raised (rw c.preimage-b.ensures at c.raise_node.ensures)
+returns c = side_raised (rw (c.preimage-b.ensures, c.keep.ensures, images_in_kept) at c.raise_node.ensures)

@@ -3,17 +3,20 @@ use Rattle.std.proofs.Common.{◌≡◌, ◌<◌, ◌≤◌, ◌*◌, List, ℕ,
 use Rattle.field.specs.Field.{Bytes}
 use Rattle.run.specs.Answer as run
 use Rattle.numbers.specs.declared.Given.{Given}
-use Rattle.numbers.specs.Numbers.{result_of}
 use Rattle.printer.specs.Lines.{solver_lines}
 use Rattle.printer.specs.Placed.{Placed}
 use Rattle.printer.proofs.Fitting.{solver_length, placed_whole}
 use Rattle.solve.specs.Printing.{solver_lines_of}
 use Rattle.solve.specs.Serving.{SolverWorks}
-use Rattle.solve.proofs.work.Goals as goal
+use Rattle.solve.proofs.SolverWork.work.Goals as goal
+
+-- A number and a place with an output, as the definitions put them.
+abbrev result : Given → List ℕ → run.Result
+result g o = record { number = g.number; place = g.place; output = o }
 
 -- What is printed of the number and the place is the lines, where the solver gave back what the definition says; and they are there whole.
 told :
-    {r : ℕ} {o d e : List ℕ} (g : Given) (s : run.Result) → result_of g o ≡ s →
+    {r : ℕ} {o d e : List ℕ} (g : Given) (s : run.Result) → result g o ≡ s →
     g.number < 256 → g.place < 18446744073709551616 → Bytes o → 4 * length o ≤ length d → 33 ≤ length d →
     Placed d 0 (solver_lines g.number g.place o) r e → SolverWorks s e (record { given = g; end = r })
 told {r} {o} {d} {e} g s f x y z l m h =
@@ -27,14 +30,15 @@ told {r} {o} {d} {e} g s f x y z l m h =
 
 pub returns : goal.returns
 returns c =
-    let small = c.solve-given.type_inv in
+    let given = c.solved-given.result in
+    let small = c.solved-given.type_inv in
     told
-    c.solve-given.result
+    given
     _
-    c.solve-given.ensures
+    (ap (λ (g : Given). result g c.solve.new._output) c.solved-given.ensures ∙ c.solve.ensures)
     (omega (arith, small))
     (omega (arith, small))
     (search rules)
-    (omega (arith, c.solve-given.auto.output, c.requires.0))
-    c.requires.1
+    (omega (arith, c.solve.auto._output, c.requires))
+    (omega (arith, c.requires))
     c.solver_lines-end.ensures

@@ -1,8 +1,0 @@
-use Rattle.std.proofs.Common.{ℕ, ◌<◌, ◌≢◌}
-use Rattle.permutation.specs.Table.{image}
-use Rattle.permutation.specs.Store.{table}
-use Rattle.demands.proofs.preimage.Given as goal
-
--- No atom passed has the image that is looked for.
-abbrev pub invariant-loop-i : goal.invariant-loop-i
-invariant-loop-i l = (k : ℕ) → k < l.i → image (table l.n l.p) k ≢ l.a.0
