@@ -74,13 +74,8 @@ pub fn any(sets: &[u32], n: usize) -> bool
     ensures { result ≡ false → (i : ℕ) → i < n → (a : ℕ) → member (get_or sets.now i 0) a ≡ false }
 {
     let mut all = AtomSet::empty();
-<<<<<<< HEAD
-    for i in 0..n {
-        all = all.union(Set(sets[i]));
-=======
     for atoms in &sets[..n] {
         all = all.union(Set(*atoms));
->>>>>>> ebce0e2c172edc4a8b5c70406222ef303f693433
     }
     !all.is_empty()
 }
