@@ -185,14 +185,13 @@ fn permuted(rest: &Rest, atoms: u8) -> Option<usize>
 fn suspension(
     rest: &Rest,
     c: Counts,
-    n: u16,
     places: &mut Places,
     node_variables: &mut NodeVariables,
 ) -> Option<usize>
-    requires { n < 512 }
-    ensures { Kept (suspension_good c.atoms c.variables rest.now.bytes.now rest.now.word) (3 + length_in rest.now.word) n
+    requires { c.nodes < 512 }
+    ensures { Kept (suspension_good c.atoms c.variables rest.now.bytes.now rest.now.word) (3 + length_in rest.now.word) c.nodes
         (with_place rest.now.place rest.now.word) result places.old places.new
-        × Kept (suspension_good c.atoms c.variables rest.now.bytes.now rest.now.word) (3 + length_in rest.now.word) n
+        × Kept (suspension_good c.atoms c.variables rest.now.bytes.now rest.now.word) (3 + length_in rest.now.word) c.nodes
         (inserted 64 0 (first_byte_in rest.now.word)) result node_variables.old node_variables.new }
 {
     let x = word::first_byte(rest.word);
@@ -200,35 +199,32 @@ fn suspension(
         return None;
     }
     let size = permuted(rest, c.atoms)?;
-    keep::put_suspension(places, usize::from(n), rest.word, rest.place as u16);
-    variables::put(
-        node_variables,
-        usize::from(n),
-        VariableSet::empty().with(Variable(x)),
-    );
+    let n = usize::from(c.nodes);
+    keep::put_suspension(places, n, rest.word, rest.place as u16);
+    variables::put(node_variables, n, VariableSet::empty().with(Variable(x)));
     Some(size)
 }
 
-// The field as node n. The tags are document 01's own numbers: an enum of them would need this match to make it, and a second one to use it.
+// The field as one more node. The tags are document 01's own numbers: an enum of them would need this match to make it, and a second one to use it.
 fn node(
     rest: &Rest,
     c: Counts,
-    n: u16,
     places: &mut Places,
     node_variables: &mut NodeVariables,
 ) -> Option<usize>
-    requires { (n < 512) × Seen rest.now.bytes.now }
-    ensures { NodeStepped rest.now.bytes.now rest.now.place (with_nodes c n) places.old node_variables.old result
+    requires { (c.nodes < 512) × Seen rest.now.bytes.now }
+    ensures { NodeStepped rest.now.bytes.now rest.now.place c places.old node_variables.old result
         places.new node_variables.new }
 {
     let w = rest.word;
+    let n = c.nodes;
     match word::tag(w) {
         0x10 => unit(w, n, places, node_variables),
         0x11 => atom(w, n, c.atoms, places, node_variables),
         0x12 => abstraction(w, n, c.atoms, places, node_variables),
         0x13 => pair(w, n, places, node_variables),
         0x14 => application(w, n, places, node_variables),
-        0x15 => suspension(rest, c, n, places, node_variables),
+        0x15 => suspension(rest, c, places, node_variables),
         _ => None,
     }
 }
@@ -238,11 +234,10 @@ fn node(
 fn node_here(
     rest: &Rest,
     c: Counts,
-    n: u16,
     places: &mut Places,
     node_variables: &mut NodeVariables,
 ) -> Option<usize>
-    ensures { NodeStepped rest.now.bytes.now rest.now.place (with_nodes c n) places.old node_variables.old result
+    ensures { NodeStepped rest.now.bytes.now rest.now.place c places.old node_variables.old result
         places.new node_variables.new }
 {
     let left = rest.bytes.len();
@@ -251,10 +246,10 @@ fn node_here(
             return None;
         }
     }
-    if n >= NODES {
+    if c.nodes >= NODES {
         return None;
     }
-    node(rest, c, n, places, node_variables)
+    node(rest, c, places, node_variables)
 }
 
 // The slice from each field's end is passed on to the reading of its first bytes.
@@ -270,13 +265,16 @@ pub fn nodes<'a>(
         places.new node_variables.new }
 {
     let mut at = from;
-    let mut n = c.nodes;
+    let mut c = c;
     loop {
         let rest = Rest::at(s, at);
-        let Some(size) = node_here(&rest, c, n, places, node_variables) else {
-            return Reached { rest, nodes: n };
+        let Some(size) = node_here(&rest, c, places, node_variables) else {
+            return Reached {
+                rest,
+                nodes: c.nodes,
+            };
         };
         at += size;
-        n += 1;
+        c.nodes += 1;
     }
 }

@@ -1,7 +1,7 @@
 -- Each tag's own function answers for it, and any other tag is no node's.
 use Rattle.std.proofs.Common.{◌≡◌, sym, ap, ◌∙◌, arith}
 use Rattle.field.specs.Word.{eight, tag_in}
-use Rattle.reader.specs.Found.{sized_by, with_nodes}
+use Rattle.reader.specs.Found.{sized_by}
 use Rattle.reader.proofs.Stepping.{not_node}
 use Rattle.reader.proofs.Steps.{none_found, unit_step, atom_step, abstraction_step, pair_step, application_step, suspension_step}
 use Rattle.reader.proofs.nodes.node.Goals as goal
@@ -41,7 +41,7 @@ returns-in_default c =
     let rest = c.args.rest.now in
     let the_tag : c.tag.result ≡ tag_in (eight rest.bytes.now) = c.tag.ensures ∙ ap tag_in rest.first_eight in
     (λ assumed.
-    none_found (not_node (sized_by (with_nodes c.args.c c.args.n)) rest.bytes.now rest.are_bytes (record {
+    none_found (not_node (sized_by c.args.c) rest.bytes.now rest.are_bytes (record {
       no_unit = λ e. omega (arith, the_tag, e);
       no_atom = λ e. omega (arith, the_tag, e);
       no_abstraction = λ e. omega (arith, the_tag, e);

@@ -1,7 +1,7 @@
 -- Where no node can stand, none is found; elsewhere `node` answers.
 use Rattle.std.proofs.Common.{ap, ◌∙◌, arith}
 use Rattle.field.specs.Word.{length_in}
-use Rattle.reader.specs.Found.{sized_by, with_nodes}
+use Rattle.reader.specs.Found.{sized_by}
 use Rattle.reader.proofs.Stepping.{cut_node, node_past}
 use Rattle.reader.proofs.Steps.{none_found}
 use Rattle.reader.proofs.nodes.node_here.Goals as goal
@@ -12,9 +12,9 @@ returns-then-left-length c =
     let length_is = c.length.ensures.0 ∙ ap length_in rest.first_eight in
     (λ assumed.
     none_found
-    (cut_node (sized_by (with_nodes c.args.c c.args.n)) rest.bytes.now rest.are_bytes (omega (arith, length_is, c.if-left-length.true))))
+    (cut_node (sized_by c.args.c) rest.bytes.now rest.are_bytes (omega (arith, length_is, c.if-left-length.true))))
 
-pub returns-then-n-ge-NODES : goal.returns-then-n-ge-NODES
-returns-then-n-ge-NODES c =
+pub returns-then-c-ge-NODES : goal.returns-then-c-ge-NODES
+returns-then-c-ge-NODES c =
     let rest = c.args.rest.now in
-    (λ assumed. none_found (node_past (sized_by (with_nodes c.args.c c.args.n)) rest.bytes.now rest.are_bytes c.if-n-ge-NODES.true))
+    (λ assumed. none_found (node_past (sized_by c.args.c) rest.bytes.now rest.are_bytes c.if-c-ge-NODES.true))
