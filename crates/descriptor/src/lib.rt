@@ -118,7 +118,8 @@ fn number_of(error: io::Error) -> i32
     }
 }
 
-// Reads once. A signal, or an input that has nothing yet, is no answer; after 2^64 such turns it is one.
+// Reads once. A signal, or an input that has nothing yet, is no answer; after 2^64 such turns it is one. `write` goes over its calls likewise, and not by one
+// function that takes the call: of what a closure that is called again leaves in the reader or the writer that it borrows, a proof knows nothing.
 pub fn read<R: Read, C: Clock>(reader: &mut R, clock: &C, buf: &mut [u8]) -> Answer
     ensures asked_value { result.asked ≡ length buf.new }
     ensures moved { Moved (length buf.new) result.got }
