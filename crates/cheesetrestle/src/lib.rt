@@ -12,7 +12,7 @@ use solver::tables::{
     Stack, Tables, Values, Work,
 };
 
-// Number and place in one word.
+// Number and place in one word. Of a usize no From makes a u64.
 fn joined(given: Given) -> u64
     requires { given.place ≤ 65535 }
     ensures { result ≡ packed given.number given.place }

@@ -106,6 +106,7 @@ pub fn next<R: Read, C: Clock>(reader: &mut R, clock: &C, input: &mut [u8]) -> R
     ensures { Told (length input.new) result }
 {
     part(reader, clock, input, 4, 4).map_err(at_start)?;
+    // Of a u32 no From makes a usize.
     let size = field::four(input, 0) as usize;
     body(reader, clock, input, size)
 }
