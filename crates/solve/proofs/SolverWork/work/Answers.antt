@@ -35,10 +35,10 @@ returns c =
     told
     given
     _
-    (ap (λ (g : Given). result g c.solve.new._output) c.solved-given.ensures ∙ c.solve.ensures)
+    (ap (λ (g : Given). result g c.solve.new.output) c.solved-given.ensures ∙ c.solve.ensures)
     (omega (arith, small))
     (omega (arith, small))
     (search rules)
-    (omega (arith, c.solve.auto._output, c.requires))
+    (omega (arith, c.solve.auto.output, c.requires))
     (omega (arith, c.requires))
     c.solver_lines-end.ensures
