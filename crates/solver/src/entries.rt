@@ -3,7 +3,7 @@ ghost use Rattle.std.specs.Prelude.{◌≡◌};
 ghost use Rattle.run.specs.Answer as run;
 ghost use Rattle.numbers.specs.Numbers.{result_of, judgement_given};
 
-use crate::tables::{Bindings, Demands, Stack, Tables, Work};
+use crate::tables::{self, Bindings, Demands, Stack, Tables, Work};
 use numbers::{Judged, Solved};
 use problem::Input;
 use verdicts::judging::judge_read;
@@ -62,78 +62,57 @@ pub fn judge_with(input: &[u8], tables: &mut Tables) -> Judged
 pub fn solve(input: &[u8], output: &mut [u8]) -> Solved
     ensures { result_of result output.new ≡ run.solve input.now output.old }
 {
-    let mut places = crate::tables::EMPTY_PLACES;
-    let mut assumed = crate::tables::EMPTY_ASSUMED;
-    let mut node_variables = crate::tables::EMPTY_NODE_VARIABLES;
-    let mut heads = crate::tables::EMPTY_HEADS;
-    let mut images = crate::tables::EMPTY_IMAGES;
-    let mut made = crate::tables::EMPTY_MADE;
-    let mut values = crate::tables::EMPTY_VALUES;
-    let mut asked = crate::tables::EMPTY_ASKED;
-    let mut firsts = crate::tables::EMPTY_FIRSTS;
-    let mut marks = crate::tables::EMPTY_MARKS;
-    let stack = Stack {
-        heads: &mut heads,
-        images: &mut images,
-    };
-    let bindings = Bindings {
-        made: &mut made,
-        values: &mut values,
-    };
-    let demands = Demands {
-        asked: &mut asked,
-        firsts: &mut firsts,
-    };
-    let mut tables = Tables {
-        places: &mut places,
-        assumed: &mut assumed,
-        node_variables: &mut node_variables,
-        work: Work {
-            stack,
-            bindings,
-            demands,
+    solve_with(
+        input,
+        output,
+        &mut Tables {
+            places: &mut tables::EMPTY_PLACES,
+            assumed: &mut tables::EMPTY_ASSUMED,
+            node_variables: &mut tables::EMPTY_NODE_VARIABLES,
+            work: Work {
+                stack: Stack {
+                    heads: &mut tables::EMPTY_HEADS,
+                    images: &mut tables::EMPTY_IMAGES,
+                },
+                bindings: Bindings {
+                    made: &mut tables::EMPTY_MADE,
+                    values: &mut tables::EMPTY_VALUES,
+                },
+                demands: Demands {
+                    asked: &mut tables::EMPTY_ASKED,
+                    firsts: &mut tables::EMPTY_FIRSTS,
+                },
+            },
+            marks: &mut tables::EMPTY_MARKS,
         },
-        marks: &mut marks,
-    };
-    solve_with(input, output, &mut tables)
+    )
 }
 
 // The judge.
 pub fn judge(input: &[u8]) -> Judged
     ensures { judgement_given result ≡ run.judge input.now }
 {
-    let mut places = crate::tables::EMPTY_PLACES;
-    let mut assumed = crate::tables::EMPTY_ASSUMED;
-    let mut node_variables = crate::tables::EMPTY_NODE_VARIABLES;
-    let mut heads = crate::tables::EMPTY_HEADS;
-    let mut images = crate::tables::EMPTY_IMAGES;
-    let mut made = crate::tables::EMPTY_MADE;
-    let mut values = crate::tables::EMPTY_VALUES;
-    let mut asked = crate::tables::EMPTY_ASKED;
-    let mut firsts = crate::tables::EMPTY_FIRSTS;
-    let mut marks = crate::tables::EMPTY_MARKS;
-    let stack = Stack {
-        heads: &mut heads,
-        images: &mut images,
-    };
-    let bindings = Bindings {
-        made: &mut made,
-        values: &mut values,
-    };
-    let demands = Demands {
-        asked: &mut asked,
-        firsts: &mut firsts,
-    };
-    let mut tables = Tables {
-        places: &mut places,
-        assumed: &mut assumed,
-        node_variables: &mut node_variables,
-        work: Work {
-            stack,
-            bindings,
-            demands,
+    judge_with(
+        input,
+        &mut Tables {
+            places: &mut tables::EMPTY_PLACES,
+            assumed: &mut tables::EMPTY_ASSUMED,
+            node_variables: &mut tables::EMPTY_NODE_VARIABLES,
+            work: Work {
+                stack: Stack {
+                    heads: &mut tables::EMPTY_HEADS,
+                    images: &mut tables::EMPTY_IMAGES,
+                },
+                bindings: Bindings {
+                    made: &mut tables::EMPTY_MADE,
+                    values: &mut tables::EMPTY_VALUES,
+                },
+                demands: Demands {
+                    asked: &mut tables::EMPTY_ASKED,
+                    firsts: &mut tables::EMPTY_FIRSTS,
+                },
+            },
+            marks: &mut tables::EMPTY_MARKS,
         },
-        marks: &mut marks,
-    };
-    judge_with(input, &mut tables)
+    )
 }
