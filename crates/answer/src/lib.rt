@@ -102,7 +102,8 @@ impl<'a> Writer<'a> {
             × (self.old.at + length (binding_bytes (bindings_of atoms (binding_tables bindings.now.made.now bindings.now.values.now) k))
             ≤ length self.old.output.now) }
         ensures same { self.new.output.ghost_name ≡ self.old.output.ghost_name }
-        ensures wrote { Wrote self.old.output.now self.old.at (binding_bytes (bindings_of atoms (binding_tables bindings.now.made.now bindings.now.values.now) k))
+        ensures wrote { Wrote self.old.output.now self.old.at
+            (binding_bytes (bindings_of atoms (binding_tables bindings.now.made.now bindings.now.values.now) k))
             self.new.at self.new.output.now }
     {
         for i in 0..k {

@@ -266,7 +266,8 @@ pub fn resolve(
     atoms: usize,
     variables: usize,
 ) -> bool
-    requires held { Standing input.now.bytes.now input.now.places.now × Bound (problem_of input.now.bytes.now) bound.0 bindings.now.made.now bindings.now.values.now }
+    requires held { Standing input.now.bytes.now input.now.places.now
+        × Bound (problem_of input.now.bytes.now) bound.0 bindings.now.made.now bindings.now.values.now }
     requires sizes { (nodes ≡ length (problem_of input.now.bytes.now).nodes) × (atoms ≡ (problem_of input.now.bytes.now).atoms)
         × (variables ≡ (problem_of input.now.bytes.now).variables) }
     requires small { (w : Pair) → Demanded (problem_of input.now.bytes.now) asked.old w → atom_of w < (problem_of input.now.bytes.now).atoms }
