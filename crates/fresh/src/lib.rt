@@ -163,7 +163,8 @@ fn close(
     atoms: usize,
     variables: usize,
 )
-    requires held { Standing input.now.bytes.now input.now.places.now × Bound (problem_of input.now.bytes.now) bound.0 bindings.now.made.now bindings.now.values.now }
+    requires held { Standing input.now.bytes.now input.now.places.now
+        × Bound (problem_of input.now.bytes.now) bound.0 bindings.now.made.now bindings.now.values.now }
     requires sizes { (atoms ≡ (problem_of input.now.bytes.now).atoms) × (variables ≡ (problem_of input.now.bytes.now).variables) }
     requires none { (i : ℕ) → i < variables → get_or (done_in marks.old) i 0 ≡ 0 }
     requires looked { (w : Pair) → SoFar (problem_of input.now.bytes.now) asked.old marks.old w
