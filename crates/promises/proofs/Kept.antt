@@ -22,9 +22,10 @@ use Rattle.solutions.proofs.Corollaries.{ProperVerdict, proper, agree, Tells, so
 use Rattle.solutions.proofs.Judge.{judge_exactly, judge_holds}
 use Rattle.figure3.proofs.Account.{verdict_is_figure3}
 use Rattle.std.specs.Prelude as std
+use Rattle.numbers.specs.declared.Given.{Given}
 use Rattle.numbers.specs.declared.Refusal.{Refusal}
 use Rattle.numbers.specs.Numbers.{solver_gives, judge_gives, result_of, judgement_given}
-use Rattle.promises.specs.Demands.{First, FirstJudged, Second, SecondJudged, Third, ThirdTwice}
+use Rattle.promises.specs.Demands.{given_back, judged_back, First, FirstJudged, Second, SecondJudged, Third, ThirdTwice}
 
 -- ---- what the definition leaves in the output
 
@@ -66,42 +67,42 @@ unfolding verdict_read
 refused_any input b (read p) e k n o f z = refused_read p (verdict_of p (run_of p)) (proper p (readable base_tags input p b e)) n o f z
 refused_any input b (unreadable m q) e k n o f z = let g : m ≡ n = cc in let (x, y) = k in omega arith
 
-module _ (input output after : List ℕ) (r : std.Result ℕ Refusal) (b : Bytes input) (contract : result_of r after ≡ solve input output) where
-  leaves : Leaves output (result_of r after)
+module _ (input output after : List ℕ) (r : Given) (b : Bytes input) (contract : given_back r after ≡ solve input output) where
+  leaves : Leaves output (given_back r after)
   unfolding solve
   leaves =
       subst (Leaves output) (sym contract)
       (given_leaves output (verdict_read (reading base_tags input)) (refused_any input b (reading base_tags input) refl (reading_number base_tags input)))
 
-  refused_so : (n o : ℕ) → reading base_tags input ≡ unreadable n o → result_of r after ≡ record { number = n; place = o; output = output }
+  refused_so : (n o : ℕ) → reading base_tags input ≡ unreadable n o → given_back r after ≡ record { number = n; place = o; output = output }
   unfolding solve verdict_read given
   refused_so n o e = contract ∙ rw e refl
 
-  pub first : First input output (solver_gives r) after
+  pub first : First input output r after
   first = record {
     bad_input = λ n o e. let q = refused_so n o e in (ap (λ (x : Result). x.number) q, ap (λ (x : Result). x.place) q);
     nothing_written = leaves.0;
     only_the_answer = leaves.1;
   }
 
-  pub second : Second input output (solver_gives r) after
+  pub second : Second input output r after
   unfolding solve verdict_read
   second = record { the_run = λ p e. contract ∙ rw e refl; of_figure3 = λ p e. verdict_is_figure3 p (readable base_tags input p b e) }
 
-  tells : Tells input output (result_of r after)
+  tells : Tells input output (given_back r after)
   tells = subst (Tells input output) (sym contract) (solve_tells input output b)
 
-  pub third : Third input output (solver_gives r) after
+  pub third : Third input output r after
   third = record { accepted = λ e. tells.0 (inl e); refused = tells.1 }
 
-module _ (input : List ℕ) (j : std.Result Unit Refusal) (b : Bytes input) (contract : judgement_given j ≡ judge input) where
-  pub first_judged : FirstJudged input (judge_gives j)
+module _ (input : List ℕ) (j : Given) (b : Bytes input) (contract : judged_back j ≡ judge input) where
+  pub first_judged : FirstJudged input j
   unfolding judge judgement_read
   first_judged = record { bad_input = λ n o e. contract ∙ rw e refl }
 
-  pub second_judged : SecondJudged input (judge_gives j)
+  pub second_judged : SecondJudged input j
   second_judged =
-      let number : (judge_gives j).number ≡ (judge input).0 = ap (λ (x : ℕ × ℕ). x.0) contract in
+      let number : j.number ≡ (judge input).0 = ap (λ (x : ℕ × ℕ). x.0) contract in
       record { exactly = λ p e. rw number (judge_exactly input b p e); only_what_is_read = rw number (judge_holds input b) }
 
 -- ---- the same demands twice
@@ -119,16 +120,28 @@ module _ (p q : Problem) (d e : List ℕ) where
   both (refusal i o) (accepted l cs gs) a x y m n s t = absurd (m a)
   both (refusal i o) (refusal j u) a x y m n s t = (λ z. absurd (let (f, g) = x in omega arith), λ z. absurd (let (f, g) = y in omega arith))
 
-module _ (s t d e after later : List ℕ) (r u : std.Result ℕ Refusal) (p q : Problem) (b : Bytes s) (c : Bytes t) (reads : reading base_tags s ≡ read p)
+module _ (s t d e after later : List ℕ) (r u : Given) (p q : Problem) (b : Bytes s) (c : Bytes t) (reads : reading base_tags s ≡ read p)
     (too : reading base_tags t ≡ read q)
-    (contract : result_of r after ≡ solve s d) (other : result_of u later ≡ solve t e) (same : SameDemands p q) where
-  pub third_twice : ThirdTwice p q (solver_gives r) (solver_gives u)
+    (contract : given_back r after ≡ solve s d) (other : given_back u later ≡ solve t e) (same : SameDemands p q) where
+  pub third_twice : ThirdTwice p q r u
   third_twice =
       let x = readable base_tags s p b reads in
       let y = readable base_tags t q c too in
-      let k : (solver_gives r).number ≡ (given (verdict_of p (run_of p)) d).number = ap (λ (z : Result). z.number) ((second s d after r b contract).the_run p reads) in
-      let l : (solver_gives u).number ≡ (given (verdict_of q (run_of q)) e).number = ap (λ (z : Result). z.number) ((second t e later u c other).the_run q too) in
+      let k : r.number ≡ (given (verdict_of p (run_of p)) d).number = ap (λ (z : Result). z.number) ((second s d after r b contract).the_run p reads) in
+      let l : u.number ≡ (given (verdict_of q (run_of q)) e).number = ap (λ (z : Result). z.number) ((second t e later u c other).the_run q too) in
       record {
         alike = rw (k, l) (both p q d e (verdict_of p (run_of p)) (verdict_of q (run_of q)) (agree p q same x y) (proper p x) (proper q y));
         equally_general = agree p q same x y;
       }
+
+-- ---- the contracts of the entries as they stand in the code, which are of a Result
+
+pub solver_keeps : (input output after : List ℕ) (r : std.Result ℕ Refusal) → Bytes input → result_of r after ≡ solve input output
+    → First input output (solver_gives r) after × Second input output (solver_gives r) after × Third input output (solver_gives r) after
+solver_keeps input output after r b contract =
+    let g = solver_gives r in
+    (first input output after g b contract, second input output after g b contract, third input output after g b contract)
+
+pub judge_keeps : (input : List ℕ) (j : std.Result Unit Refusal) → Bytes input → judgement_given j ≡ judge input
+    → FirstJudged input (judge_gives j) × SecondJudged input (judge_gives j)
+judge_keeps input j b contract = (first_judged input (judge_gives j) b contract, second_judged input (judge_gives j) b contract)
