@@ -1,6 +1,7 @@
 -- The marks in the code's tables: of each node and of each variable the set of atoms that are to be fresh for it, and when they are done. Definitions alone.
-use Rattle.std.specs.Prelude.{ℕ, ◌≤◌, ◌<◌, ◌^◌, ◌≡◌, Bool, true, false, cond, List, [], length, get_or, Option, Some, None}
-use Rattle.std.proofs.Math.Option.{Option as Maybe, none, some}
+use Rattle.std.specs.Prelude.{ℕ, ◌≤◌, ◌<◌, ◌^◌, ◌≡◌, Bool, true, false, cond, List, [], length, get_or}
+use Rattle.std.specs.Prelude as std
+use Rattle.std.proofs.Math.Option.{Option, none, some}
 use Rattle.names.specs.declared.Variable.{Variable}
 use Rattle.sets.specs.Bits.{member, difference}
 use Rattle.permutation.specs.Table.{image, Permutes}
@@ -28,11 +29,11 @@ SoFar p asked marks = Marked p (seen_in marks) (asked_of_variables asked)
 -- The demands S were visited: all that is left to look through are pairs with bound variables.
 pub record Begun (nodes : List Node) (S Mark : Pair → Type 0) : Type 0 where
   pub has : (w : Pair) → S w → Mark w
-  pub from : (value : ℕ → Maybe Side) → (w : Pair) → Mark w → PairReached nodes value S w
-  pub looked : (value : ℕ → Maybe Side) → (w : Pair) → Mark w → Looked nodes value Mark w
+  pub from : (value : ℕ → Option Side) → (w : Pair) → Mark w → PairReached nodes value S w
+  pub looked : (value : ℕ → Option Side) → (w : Pair) → Mark w → Looked nodes value Mark w
 
 -- And then all that waited was looked through.
-pub record LookedThrough (nodes : List Node) (value : ℕ → Maybe Side) (Before After : Pair → Type 0) : Type 0 where
+pub record LookedThrough (nodes : List Node) (value : ℕ → Option Side) (Before After : Pair → Type 0) : Type 0 where
   pub kept : (w : Pair) → Before w → After w
   pub from : (w : Pair) → After w → PairReached nodes value Before w
   pub closed : (w : Pair) → After w → Closed nodes value After w
@@ -41,7 +42,7 @@ pub record LookedThrough (nodes : List Node) (value : ℕ → Maybe Side) (Befor
 abbrev pub valued : ℕ → List (List ℕ) → List (List ℕ) → ℕ → Side
 valued A made values X = record { images = images_of A values X; node = node_of made X }
 
-abbrev pub value_at : ℕ → ℕ → List (List ℕ) → List (List ℕ) → ℕ → Maybe Side
+abbrev pub value_at : ℕ → ℕ → List (List ℕ) → List (List ℕ) → ℕ → Option Side
 value_at A bound made values X = cond (member bound X) (some (valued A made values X)) none
 
 -- Bound variables are there, and their values are sides.
@@ -66,19 +67,19 @@ pub record Waits (bound : ℕ) (asked done : List ℕ) (X : ℕ) (r : Bool) : Ty
   pub none : r ≡ false → member bound X ≡ true → new_at asked done X ≡ 0
 
 -- A variable that waits so, of those from one up to another; none, if none of these does.
-pub record NextBetween (bound : ℕ) (asked done : List ℕ) (least most : ℕ) (r : Option Variable) : Type 0 where
-  pub found : (x : Variable) → r ≡ Some x → (x.0 < most) × (member bound x.0 ≡ true) × (0 < new_at asked done x.0)
-  pub none : r ≡ None → (X : ℕ) → least ≤ X → X < most → member bound X ≡ true → new_at asked done X ≡ 0
+pub record NextBetween (bound : ℕ) (asked done : List ℕ) (least most : ℕ) (r : std.Option Variable) : Type 0 where
+  pub found : (x : Variable) → r ≡ std.Some x → (x.0 < most) × (member bound x.0 ≡ true) × (0 < new_at asked done x.0)
+  pub none : r ≡ std.None → (X : ℕ) → least ≤ X → X < most → member bound X ≡ true → new_at asked done X ≡ 0
 
 -- A variable that waits so, of those below one; none, if none of these does.
-pub record LastBelow (bound : ℕ) (asked done : List ℕ) (from : ℕ) (r : Option Variable) : Type 0 where
-  pub found : (x : Variable) → r ≡ Some x → (x.0 < from) × (member bound x.0 ≡ true) × (0 < new_at asked done x.0)
-  pub none : r ≡ None → (X : ℕ) → X < from → member bound X ≡ true → new_at asked done X ≡ 0
+pub record LastBelow (bound : ℕ) (asked done : List ℕ) (from : ℕ) (r : std.Option Variable) : Type 0 where
+  pub found : (x : Variable) → r ≡ std.Some x → (x.0 < from) × (member bound x.0 ≡ true) × (0 < new_at asked done x.0)
+  pub none : r ≡ std.None → (X : ℕ) → X < from → member bound X ≡ true → new_at asked done X ≡ 0
 
 -- A variable that waits so; none, if no variable does.
-pub record Next (bound : ℕ) (asked done : List ℕ) (variables : ℕ) (r : Option Variable) : Type 0 where
-  pub found : (x : Variable) → r ≡ Some x → (x.0 < variables) × (member bound x.0 ≡ true) × (0 < new_at asked done x.0)
-  pub none : r ≡ None → (X : ℕ) → X < variables → member bound X ≡ true → new_at asked done X ≡ 0
+pub record Next (bound : ℕ) (asked done : List ℕ) (variables : ℕ) (r : std.Option Variable) : Type 0 where
+  pub found : (x : Variable) → r ≡ std.Some x → (x.0 < variables) × (member bound x.0 ≡ true) × (0 < new_at asked done x.0)
+  pub none : r ≡ std.None → (X : ℕ) → X < variables → member bound X ≡ true → new_at asked done X ≡ 0
 
 -- A bound variable's new atoms were passed on to its value, each as the atom that the value's images send to it: the demands and the marks before and
 -- after. What is demanded of nodes stays.

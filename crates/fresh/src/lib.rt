@@ -101,6 +101,7 @@ fn last_below(bound: VariableSet, asked: &Asked, marks: &Marks, from: Variable) 
 // A variable that waits: going up the nearest from one on, or else the nearest below it; going down the other way round. Which one it is does not
 // matter to what is resolved: the direction is a hint. A chain of values that each hold the variable before, or the one after, is so followed from
 // neighbour to neighbour, and a turn of `close` does not pass again all that were found to wait no more. The variables in use are those below `end`.
+// `up` stays a flag: it is what comparing two variables tells, and an enum of two would be made of that by an `if` and taken apart by another.
 fn next(
     bound: VariableSet,
     asked: &Asked,
