@@ -20,6 +20,8 @@ use stack::Pending;
 use variables::NodeVariables;
 
 // A side of an equation, resolved. Most sides are no suspension of a bound variable: that is asked here, before the loop that resolves one is entered.
+// It stands where it is wanted and is not called: called, 64 variables that are bound one after the other take 3% more instructions.
+#[inline(always)]
 fn resolved(
     input: &Input,
     bindings: &Bindings,

@@ -5,6 +5,7 @@ use mathlib.Core.Path.{◌≡◌, refl, sym, ap, ◌∙◌}
 use Rattle.numbers.specs.declared.Reason.{Reason}
 use Rattle.numbers.specs.declared.Reason.TheVariants as reason
 use Rattle.numbers.specs.declared.Refusal.{Refusal}
+use Rattle.numbers.specs.declared.Given.{Given}
 use Rattle.numbers.specs.Numbers.{Result, number_of, solver_gives, judge_gives, result_of, judgement_given}
 
 -- The table's rows in its order: that of the number 1 comes first.
@@ -49,3 +50,10 @@ one_result r u d e q =
 
 pub one_judgement : (r u : std.Result Unit Refusal) → judgement_given r ≡ judgement_given u → r ≡ u
 one_judgement r u q = sym (judge_kept r) ∙ ap (λ (x : ℕ × ℕ). back tt x.0 x.1) q ∙ judge_kept u
+
+-- The same of a number and a place.
+pub one_given : (r u : Given) (d e : List ℕ)
+    → ◌≡◌ {A = Result} (record { number = r.number; place = r.place; output = d }) (record { number = u.number; place = u.place; output = e })
+    → (r ≡ u) × (d ≡ e)
+one_given r u d e q =
+    (ap {B = Given} (λ (x : Result). record { number = x.number; place = x.place }) q, ap (λ (x : Result). x.output) q)
