@@ -51,7 +51,8 @@ fn resolve(
     )
 }
 
-// The solver's answer, for a run that is finished after so many steps.
+// The solver's answer, for a run that is finished after so many steps. What is known of the run comes as three numbers: a struct of them would be a twin of
+// the machine's, which is no part of what this crate may know.
 pub fn conclude(
     input: &Input,
     c: Counts,
