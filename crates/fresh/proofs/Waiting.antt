@@ -18,16 +18,13 @@ use Rattle.fresh.specs.Marks.{done_in, new_at, NextBetween, LastBelow, Next, Pas
 
 -- ---- the next variable
 
-module _ {bound : ℕ} {asked done : List ℕ} {from variables : ℕ} {r : Option Variable} where
-  -- Of those below a number and those from it on: one of either, or none of both.
-  pub next_above : LastBelow bound asked done from None → NextBetween bound asked done from variables r → Next bound asked done variables r
-  next_above b n = record { found = n.found; none = λ e X l q. by_lt X from (λ j. b.none refl X j q) (λ j. n.none e X j l q) }
-
-  pub next_below : from ≤ variables → NextBetween bound asked done from variables None → LastBelow bound asked done from r → Next bound asked done variables r
-  next_below h n b = record {
-    found = λ x e. let f = b.found x e in (omega (arith, h, f.0), f.1, f.2);
-    none = λ e X l q. by_lt X from (λ j. b.none e X j q) (λ j. n.none refl X j l q);
-  }
+-- Of those below a number and those from it on: one of either, or none of both.
+pub next_below : {bound : ℕ} {asked done : List ℕ} {from variables : ℕ} {r : Option Variable} → from ≤ variables
+    → NextBetween bound asked done from variables None → LastBelow bound asked done from r → Next bound asked done variables r
+next_below {from = from} h n b = record {
+  found = λ x e. let f = b.found x e in (omega (arith, h, f.0), f.1, f.2);
+  none = λ e X l q. by_lt X from (λ j. b.none e X j q) (λ j. n.none refl X j l q);
+}
 
 -- One found below a number is one of all.
 pub next_found : {bound : ℕ} {asked done : List ℕ} {from variables : ℕ} {x : Variable} → from ≤ variables → LastBelow bound asked done from (Some x)

@@ -87,9 +87,6 @@ pub record Passing (s : List ℕ) (w i r : ℕ) : Type 0 where
   pub names : Within 32 (swaps_in (drop i s))
   pub left : (x : ℕ) → x < 32 → member w (act (swaps_in s) x) ≡ member r (act (swaps_in (drop i s)) x)
 
-pub passing_none : (s : List ℕ) (w : ℕ) → w < 2 ^ 32 → Within 32 (swaps_in s) → Passing s w 0 w
-passing_none s w h k = record { small = h; names = k; left = λ x l. refl }
-
 module _ {s : List ℕ} {w i r : ℕ} (p : Passing s w i r) (h : i + 1 < length s) where
   -- The two atoms of the next swap.
   abbrev a : ℕ
