@@ -37,19 +37,19 @@ fn resolved(
     ensures { SideResolved input.now.bytes.now atoms (binding_tables bindings.now.made.now bindings.now.values.now) state.bound.0 state.count
         (side_at atoms images node) result }
 {
-    let side = Side::of(input, images, node);
-    if !side::is_bound(side.form, state.bound) {
-        return side;
+    let form = input.form_of(node);
+    if side::is_bound(form, state.bound) {
+        return side::resolve(
+            input,
+            bindings,
+            atoms,
+            state.bound,
+            state.count,
+            images,
+            node,
+        );
     }
-    side::resolve(
-        input,
-        bindings,
-        atoms,
-        state.bound,
-        state.count,
-        images,
-        node,
-    )
+    Side { images, node, form }
 }
 
 // The step of the equation e, which was above those that wait.

@@ -69,12 +69,12 @@ fn same_variable(
     atoms: usize,
     number: u8,
     x: Variable,
-    left: Side,
-    right: Side,
+    left: &Side,
+    right: &Side,
 )
     requires { Standing input.now.bytes.now input.now.places.now × (atoms ≡ (problem_of input.now.bytes.now).atoms)
-        × Hangs input.now.bytes.now left.node.0 × Hangs input.now.bytes.now right.node.0 × (x.0 < 64) }
-    ensures { DisagreementRaised (whole_held input.now.bytes.now atoms left) (whole_held input.now.bytes.now atoms right) x.0 number
+        × Hangs input.now.bytes.now left.now.node.0 × Hangs input.now.bytes.now right.now.node.0 × (x.0 < 64) }
+    ensures { DisagreementRaised (whole_held input.now.bytes.now atoms left.now) (whole_held input.now.bytes.now atoms right.now) x.0 number
         (sheet demands.old.asked.now demands.old.firsts.now) (sheet demands.new.asked.now demands.new.firsts.now) }
 {
     let p = side::whole(input, atoms, left.images, left.node);
@@ -104,13 +104,13 @@ fn bind(
     number: u8,
     state: State,
     x: Variable,
-    side: Side,
-    other: Side,
+    side: &Side,
+    other: &Side,
 ) -> State
-    requires { Standing input.now.bytes.now input.now.places.now × (atoms ≡ (problem_of input.now.bytes.now).atoms) × Hangs input.now.bytes.now side.node.0
+    requires { Standing input.now.bytes.now input.now.places.now × (atoms ≡ (problem_of input.now.bytes.now).atoms) × Hangs input.now.bytes.now side.now.node.0
         × Keeps bindings.old.made.now state.count state.bound.0 × (member state.bound.0 x.0 ≡ false) × (x.0 < 64) }
     ensures { BoundTo atoms number x.0
-        (under (inverted (whole_held input.now.bytes.now atoms side)) (side_held atoms other))
+        (under (inverted (whole_held input.now.bytes.now atoms side.now)) (side_held atoms other.now))
         (binding_tables bindings.old.made.now bindings.old.values.now) state
         (binding_tables bindings.new.made.now bindings.new.values.now) result }
 {
@@ -168,16 +168,16 @@ pub fn perform(
             Ok(state.with(n + 1))
         }
         Act::Same(x) => {
-            same_variable(input, &mut work.demands, atoms, number, x, left, right);
+            same_variable(input, &mut work.demands, atoms, number, x, &left, &right);
             Ok(state)
         }
         Act::BindLeft(x) => {
             let bindings = &mut work.bindings;
-            Ok(bind(input, bindings, atoms, number, state, x, left, right))
+            Ok(bind(input, bindings, atoms, number, state, x, &left, &right))
         }
         Act::BindRight(x) => {
             let bindings = &mut work.bindings;
-            Ok(bind(input, bindings, atoms, number, state, x, right, left))
+            Ok(bind(input, bindings, atoms, number, state, x, &right, &left))
         }
     }
 }

@@ -13,4 +13,4 @@ overflow_add-result c =
 pub returns : goal.returns
 returns c =
     bound_to c.add-bound.ensures
-    (value_is _ _ _ _ _ c.args.other.images c.under_inverse-images.result c.args.other.node c.whole-outer.ensures c.under_inverse-images.ensures)
+    (value_is _ _ _ _ _ c.args.other.now.images c.under_inverse-images.result c.args.other.now.node c.whole-outer.ensures c.under_inverse-images.ensures)
