@@ -67,6 +67,7 @@ fn passed<R: Read, C: Clock>(
     let room = input.len();
     let mut left = more;
     let mut last = front;
+    // Moves on by what each call moved, so no range goes over it.
     while 0 < left {
         let most = cmp::min(left, room);
         last = part(reader, clock, input, most, room)?;

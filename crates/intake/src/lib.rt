@@ -16,7 +16,7 @@ pub struct Filled {
     pub last: Answer,
 }
 
-// A read failed: how many bytes came before it, and what it answered.
+// A read failed: how many bytes came before it, and what it answered. Two types of one form: so Stop and Ending can hold a read that failed and no other.
 #[derive(Clone, Copy, PartialEq, Eq)]
 pub struct Unread {
     pub count: usize,
@@ -32,6 +32,7 @@ pub fn fill<R: Read, C: Clock>(reader: &mut R, clock: &C, buf: &mut [u8]) -> Res
 {
     let mut count = 0;
     let mut last = Answer::none();
+    // Moves on by what each call moved, so no range goes over it.
     while count < buf.len() {
         last = descriptor::read(reader, clock, &mut buf[count..]);
         if last.failed() {

@@ -17,11 +17,22 @@ pub struct Taken {
     last: Answer,
 }
 
-// Not all were taken: how many, and what the write after them answered, which failed or took nothing.
+// Not all were taken: how many, and what the write after them answered, which failed or took nothing. Two types of one form: so Ending can hold a writing that was
+// not whole and no other.
 #[derive(Clone, Copy, PartialEq, Eq)]
 pub struct Unwritten {
     count: usize,
     last: Answer,
+}
+
+impl Taken {
+    // What the last write answered.
+    pub fn last(&self) -> Answer
+        ensures { result ≡ self.now.last }
+    {
+        let Taken { last, .. } = *self;
+        last
+    }
 }
 
 impl Unwritten {
@@ -51,6 +62,7 @@ pub fn put<W: Write, C: Clock>(writer: &mut W, clock: &C, buf: &[u8]) -> Result<
 {
     let mut count = 0;
     let mut last = Answer::none();
+    // Moves on by what each call moved, so no range goes over it.
     while count < buf.len() {
         last = descriptor::write(writer, clock, &buf[count..]);
         if last.moved() == 0 {
