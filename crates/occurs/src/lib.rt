@@ -12,17 +12,19 @@ use sets::VariableSet;
 use variables::NodeVariables;
 
 // What is known of variables: which occur in each node, which are bound, and to what.
+// No PartialEq: == would compare the lent tables word by word, where two are the same if what they are lent is.
 #[derive(Clone, Copy)]
 pub struct Known<'a> {
     pub node_variables: &'a NodeVariables,
     pub bindings: &'a Bindings<'a>,
     pub bound: VariableSet,
+    ghost there: { NodesThere 512 bindings.now.made.now bound.0 },
 }
 
 impl<'a> Known<'a> {
     // The variables that are reached from a node through bindings: each bound variable is looked through at most once.
     fn reaches(&self, from: NodeId) -> VariableSet
-        requires { (from.0 < 512) × NodesThere 512 self.now.bindings.now.made.now self.now.bound.0 }
+        requires { from.0 < 512 }
         ensures { Closure self.now.bound.0 self.now.bindings.now.made.now self.now.node_variables.now
             (get_or self.now.node_variables.now from.0 0) result.0 }
     {
@@ -43,7 +45,7 @@ impl<'a> Known<'a> {
 
     // Whether a variable occurs in a node, looked at through all bindings.
     pub fn occurs(&self, x: Variable, node: NodeId) -> bool
-        requires { (node.0 < 512) × NodesThere 512 self.now.bindings.now.made.now self.now.bound.0 }
+        requires { node.0 < 512 }
         ensures { OccursAnswered self.now.bound.0 self.now.bindings.now.made.now self.now.node_variables.now node.0 x.0 result }
     {
         self.reaches(node).has(x)

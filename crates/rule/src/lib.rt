@@ -6,7 +6,6 @@ ghost use Rattle.std.specs.Prelude.{◌≡◌, Bool, ◌≤◌, ◌<◌};
 ghost use Rattle.permutation.specs.Store.{table};
 ghost use Rattle.permutation.specs.Table.{image};
 ghost use Rattle.sets.specs.Bits.{member};
-ghost use Rattle.bindings.specs.Bindings.{NodesThere};
 ghost use Rattle.side.specs.Side.{Compound};
 ghost use Rattle.rule.specs.Rule.{atoms_act, abstractions_act, applications_act, Compounds, unless_inside, unless_protected, either_act, OccursTold, Decided};
 
@@ -18,7 +17,8 @@ use sets::VariableSet;
 use side::Side;
 
 // What a step does: it is done, it refuses, it goes on with parts of both sides, it demands, or it binds.
-#[derive(Clone, Copy)]
+// The refusals are acts among the others: `ruled` and `decided_once` say that of all of these one fits and no other.
+#[derive(Clone, Copy, PartialEq, Eq)]
 pub enum Act {
     Done,
     Clash,
@@ -67,6 +67,7 @@ fn two_abstractions(
 }
 
 // "different symbols: 9", "Applications: the two arguments".
+// The quick run's applications_meet asks the same, but gives no Act: seven of its ten do not come there.
 fn two_applications(f: u16, m: NodeId, h: u16, n: NodeId) -> Act
     ensures { result ≡ applications_act f m h n }
 {
@@ -97,7 +98,7 @@ fn compounds(left: Side, right: Side, atoms: usize) -> Act
 
 // "if X occurs in the right side, looked at through all bindings, 10".
 fn unless_inside(known: &Known, x: Variable, other: NodeId, act: Act) -> Act
-    requires { (other.0 < 512) × NodesThere 512 known.now.bindings.now.made.now known.now.bound.0 }
+    requires { other.0 < 512 }
     ensures { (o : Bool)
         → OccursTold known.now.bound.0 known.now.bindings.now.made.now known.now.node_variables.now other.0 x.0 o
         → result ≡ unless_inside o act }
@@ -110,7 +111,7 @@ fn unless_inside(known: &Known, x: Variable, other: NodeId, act: Act) -> Act
 
 // "an unprotected X under P", and "Any other suspension: 11".
 fn one_variable(known: &Known, protected: VariableSet, x: Variable, other: NodeId, act: Act) -> Act
-    requires { (other.0 < 512) × NodesThere 512 known.now.bindings.now.made.now known.now.bound.0 }
+    requires { other.0 < 512 }
     ensures { (o : Bool)
         → OccursTold known.now.bound.0 known.now.bindings.now.made.now known.now.node_variables.now other.0 x.0 o
         → result ≡ unless_protected (member protected.0 x.0) o act }
@@ -130,7 +131,7 @@ fn two_variables(
     left: NodeId,
     right: NodeId,
 ) -> Act
-    requires { (left.0 < 512) × (right.0 < 512) × NodesThere 512 known.now.bindings.now.made.now known.now.bound.0 }
+    requires { (left.0 < 512) × (right.0 < 512) }
     ensures { (i j : Bool)
         → OccursTold known.now.bound.0 known.now.bindings.now.made.now known.now.node_variables.now left.0 y.0 i
         → OccursTold known.now.bound.0 known.now.bindings.now.made.now known.now.node_variables.now right.0 x.0 j
@@ -147,8 +148,7 @@ fn two_variables(
 
 // "Then one step, the first that fits".
 pub fn decide(known: &Known, atoms: usize, protected: VariableSet, left: Side, right: Side) -> Act
-    requires { (atoms ≤ 32) × (left.node.0 < 512) × (right.node.0 < 512)
-        × NodesThere 512 known.now.bindings.now.made.now known.now.bound.0 }
+    requires { (atoms ≤ 32) × (left.node.0 < 512) × (right.node.0 < 512) }
     ensures { Decided atoms (member protected.0) known.now.bound.0 known.now.bindings.now.made.now known.now.node_variables.now left right result }
 {
     match (left.form, right.form) {

@@ -13,11 +13,14 @@ resolved-right-requires c =
     let h = c.requires in
     (h.footing.standing, h.footing.number, right_there h, nodes_there h)
 
+pub invariant_of-known : goal.invariant_of-known
+invariant_of-known c = record { there = nodes_small c.requires }
+
 pub decide-act-requires : goal.decide-act-requires
 decide-act-requires c =
     let h = c.requires in
     let few_nodes = h.footing.standing.readable.few_nodes in
-    (few h, omega (arith, c.resolved-left.ensures.there, few_nodes), omega (arith, c.resolved-right.ensures.there, few_nodes), nodes_small h)
+    (few h, omega (arith, c.resolved-left.ensures.there, few_nodes), omega (arith, c.resolved-right.ensures.there, few_nodes))
 
 pub perform-requires : goal.perform-requires
 perform-requires c =

@@ -30,7 +30,7 @@ of_node-found-requires c =
     let few : c.intersection-unseen.result.0 < 2 ^ 64 = search rules in
     let sets = c.args.self.now.node_variables.now in
     let is_bound = unseen_bound sets c.loop-waiting.invariant _ _ few c.intersection-unseen.ensures some_unseen c.lowest-x.ensures in
-    rw c.node_of-value.ensures (c.requires.1 c.lowest-x.result.0 is_bound)
+    rw c.node_of-value.ensures (c.args.self.now.there c.lowest-x.result.0 is_bound)
 
 pub loop-waiting-smaller : goal.loop-waiting-smaller
 loop-waiting-smaller c =
