@@ -15,6 +15,7 @@ use problem::{Form, Input, Places, look};
 use sets::{AtomSet, Set};
 
 // Nodes as bits, 64 to a word: the suspensions with swaps that atoms came to. They wait until all parts are visited, since their swaps stand in the input.
+// A bit is a node's number, and that is the format's.
 const WORDS: usize = MOST_NODES / 64;
 
 type LateNodes = [u64; WORDS];
@@ -60,8 +61,8 @@ fn through_swaps(swaps: &[u8], atoms: AtomSet) -> AtomSet
     ensures { result.0 ≡ sent_into 32 (act (swaps_in swaps.now)) atoms.0 }
 {
     let mut r = atoms;
-    for k in 0..swaps.len() / 2 {
-        r = exchange(r, Atom(swaps[2 * k]), Atom(swaps[2 * k + 1]));
+    for pair in swaps.chunks_exact(2) {
+        r = exchange(r, Atom(pair[0]), Atom(pair[1]));
     }
     r
 }
@@ -93,7 +94,8 @@ fn ask_at(input: &Input, node: NodeId, seen: &[u32], on_variables: &mut [u32])
     ask(input, node, x, atoms, on_variables);
 }
 
-// The same for each node of a word, of nodes from 64 * i on.
+// The same for each node of a word, of nodes from 64 * i on. Bits of nodes and no Set: the names in a Set are atoms or variables.
+// The casts: no From makes a usize of a u32, and n is below 512, so that a try_from would bring a branch that is never taken.
 fn ask_word(input: &Input, i: usize, word: u64, seen: &[u32], on_variables: &mut [u32])
     requires there { Standing input.now.bytes.now input.now.places.now × ((n : ℕ) → InWord i word n → SuspendedAt (problem_of input.now.bytes.now).nodes n) }
     requires long { (512 ≤ length seen.now) × (64 ≤ length on_variables.old) }
