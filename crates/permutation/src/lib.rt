@@ -1,6 +1,7 @@
 // Permutations of up to 32 atoms, by value. Each contract equates the result with a definition of specs/Table.antt, for every content of the
 // arrays, so a caller knows a permutation by its operations and never by its store. The number of atoms in use, n, is a parameter: the cost of
 // an operation follows n and not 32.
+// Where a number is cast to a smaller type it is less than that type holds: try_from would bring a branch that is never taken.
 #![tactic(auto)]
 
 ghost use Rattle.std.specs.Prelude.{◌≡◌, true, ℕ, ◌≤◌, ◌<◌, length, map};
@@ -12,7 +13,7 @@ ghost use Rattle.sets.specs.Bits.{of_list};
 use names::{Atom, MOST_ATOMS};
 use sets::AtomSet;
 
-#[derive(Clone, Copy)]
+#[derive(Clone, Copy, PartialEq, Eq)]
 pub struct Permutation {
     pub images: [u8; MOST_ATOMS],
 }
@@ -39,6 +40,7 @@ pub fn is_identity(p: Permutation) -> bool
 }
 
 // The same of images wherever they lie, a row of a lent table too. All 32 places are looked at with no test between them, so that many are taken at once.
+// Not by images == EACH, which proves too: of two slices it tests the first places, and calls for the rest.
 pub fn each_stays(images: &[u8]) -> bool
     requires { length images.now ≡ 32 }
     ensures { result ≡ true → (n : ℕ) → n ≤ 32 → table n (record { images = images.entry.now }) ≡ identity n }
@@ -50,7 +52,7 @@ pub fn each_stays(images: &[u8]) -> bool
     !other
 }
 
-// The image of an atom: itself, if it is none of the n.
+// The image of an atom: itself, if it is none of the n. By value, for who has a Permutation; the work is image_in's.
 pub fn image(p: Permutation, n: usize, a: Atom) -> Atom
     requires { n ≤ 32 }
     ensures { result.0 ≡ image (table n p) a.0 }
@@ -59,6 +61,7 @@ pub fn image(p: Permutation, n: usize, a: Atom) -> Atom
 }
 
 // The same under images wherever they lie.
+// n stands beside the slice here and below: a row has 32 places, and the definitions (image, table) speak of n of them.
 pub fn image_in(images: &[u8], n: usize, a: Atom) -> Atom
     requires { n ≤ length images.now }
     ensures { result.0 ≡ image (table n (record { images = images.entry.now })) a.0 }
@@ -67,7 +70,8 @@ pub fn image_in(images: &[u8], n: usize, a: Atom) -> Atom
     if i < n { Atom(images[i]) } else { a }
 }
 
-// The atom whose image is a: of several the first counts, and it is 0 if there is none, as in the inverse.
+// The atom whose image is a: of several the first counts, and it is 0 if there is none, as the definition (inverted) has it.
+// By index: what position promises speaks of the run of its iterator, and the goal stayed open when it was tried.
 pub fn preimage(images: &[u8], n: usize, a: Atom) -> Atom
     requires { (n ≤ 32) × (n ≤ length images.now) × (a.0 < n) }
     ensures { result.0 ≡ image (inverted (table n (record { images = images.entry.now }))) a.0 }
@@ -80,7 +84,7 @@ pub fn preimage(images: &[u8], n: usize, a: Atom) -> Atom
     Atom(0)
 }
 
-// First q, then p.
+// First q, then p. By index here and below: a zip over a part of r lends it, and what r has after that is not known (as at unplaced).
 pub fn compose(p: Permutation, q: Permutation, n: usize) -> Permutation
     requires { n ≤ 32 }
     ensures { result ≡ of_table (after (table n p) (table n q)) }
@@ -141,7 +145,7 @@ pub fn swap_in(images: &mut [u8], a: Atom, b: Atom)
     }
 }
 
-// First p, then the swap of a and b.
+// First p, then the swap of a and b. Not by swap_in on a part of r, for the reason at unplaced.
 pub fn swap_after(a: Atom, b: Atom, p: Permutation, n: usize) -> Permutation
     requires { n ≤ 32 }
     ensures { result ≡ of_table (swapped_after a.0 b.0 (table n p)) }
@@ -154,7 +158,7 @@ pub fn swap_after(a: Atom, b: Atom, p: Permutation, n: usize) -> Permutation
 }
 
 // The permutation of a suspension's swaps, as the problem's bytes have them: the rightmost acts first. From left to right, one more swap of a
-// and b on the right exchanges the images of a and b.
+// and b on the right exchanges the images of a and b. By hand: the library's swap first compares the two places, with tests that the bytes decide.
 pub fn of_swaps(s: &[u8], n: usize) -> Permutation
     requires { (n ≤ 32) × Within n (swaps_in s.now) }
     ensures { result ≡ of_table (of_swaps n (swaps_in s.now)) }

@@ -1,5 +1,6 @@
 // A permutation as it lies in a lent table: a row. The pending equations and the bindings have such rows. This crate and `permutation` are the only
 // ones that know how a permutation is stored.
+// Most functions hand the row on to permutation's: who calls them knows what a row keeps (images_in) and not the store (docs/ARCHITECTURE.md).
 #![tactic(auto, unfolding(crate::specs::Rows::images_in, crate::specs::Rows::row_kept, crate::specs::Rows::row_held, permutation::specs::Store::table))]
 
 ghost use Rattle.std.specs.Prelude.{◌≡◌, ℕ, ◌≤◌, ◌<◌, true};
@@ -15,7 +16,7 @@ pub type Row = [u8; MOST_ATOMS];
 
 pub const EMPTY: Row = [0; MOST_ATOMS];
 
-// The row that keeps a permutation.
+// The row that keeps a permutation. No From, here and below: neither of the two types is this crate's.
 pub fn keep(p: Permutation) -> Row
     ensures { result ≡ row_kept p }
 {
@@ -44,7 +45,7 @@ pub fn is_identity(row: &Row) -> bool
     permutation::each_stays(row)
 }
 
-// The atom whose image is a: of several the first counts, and it is 0 if there is none, as in the inverse.
+// The atom whose image is a: of several the first counts, and it is 0 if there is none, as the definition (inverted) has it.
 pub fn preimage(row: &Row, n: usize, a: Atom) -> Atom
     requires { (n ≤ 32) × (a.0 < n) }
     ensures { result.0 ≡ image (inverted (images_in n row.now)) a.0 }

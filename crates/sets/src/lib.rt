@@ -3,6 +3,7 @@
 // that must be fresh on to a node's parts together, not one at a time.
 //
 // Every function is for every input. An atom of 32 or more and a variable of 64 or more are in no set, and adding one changes nothing.
+// Where a number is cast to a smaller type it is less than that type holds: try_from would bring a branch that is never taken.
 #![tactic(auto)]
 
 ghost use Rattle.std.specs.Prelude.{◌≡◌, ◌<◌, ◌≤◌, ◌^◌, ℕ, eqb};
@@ -104,7 +105,7 @@ impl Word for u64 {
     ghost within = { lit≤ tt };
 }
 
-#[derive(Clone, Copy)]
+#[derive(Clone, Copy, PartialEq, Eq)]
 pub struct Set<W>(pub W);
 
 pub type AtomSet = Set<u32>;
@@ -190,6 +191,7 @@ impl<W: Word> Set<W> {
     }
 
     // The least member: the width for the empty set, which is no name's number. So a loop over the members asks `is_empty` first.
+    // No Option: docs/PROVED.md names Set together with the definition lowest, which gives the width there.
     pub fn lowest(self) -> W::Name
         ensures { W.number result ≡ lowest W.WIDTH (W.bits self.0) }
     {
