@@ -7,7 +7,7 @@ ghost use Rattle.block.specs.Block.{lines_given};
 
 use numbers::Given;
 
-// The lines, whole, in `out` from its start, and where they end.
+// The lines, whole, in `out` from its start, and where they end. Of any number and place: a Result would ask more of who calls.
 pub fn lines(out: &mut [u8], solved: Given, output: &[u8], judged: Given) -> usize
     requires { 4 * length output.now + 67 ≤ length out.old }
     ensures out_after { take result out.new ≡ lines_given solved output.now judged }

@@ -16,7 +16,7 @@ use outlet::{Taken, Unwritten};
 use std::io::{Read, Write};
 use std::time::Clock;
 
-// What was given back for a problem, and where the lines that it prints end.
+// What was given back for a problem, and where the lines that it prints end. A number and a place, and no Result: Works and notice are said of any.
 #[derive(Clone, Copy, PartialEq, Eq)]
 pub struct Worked {
     pub given: Given,

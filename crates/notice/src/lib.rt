@@ -15,7 +15,8 @@ use std::io;
 use std::io::Write;
 use std::time::Clock;
 
-// What there is to say of an answer: text means that a problem was refused which looks like hexadecimal text.
+// What there is to say of an answer: text means that a problem was refused which looks like hexadecimal text. Nothing is a word of the definition notice_of, which
+// has three.
 #[derive(Clone, Copy, PartialEq, Eq)]
 pub enum Notice {
     Nothing,
@@ -57,7 +58,7 @@ fn is_text(input: &[u8]) -> bool
     !input.is_empty() && looks_like_text(&input[..input.len().min(64)])
 }
 
-// Whether a problem that is no problem from its first byte on is refused so.
+// Whether a problem that is no problem from its first byte on is refused so. Of any number and place, so that 2 and 3 stand here as numbers.
 fn is_no_problem(given: Given) -> bool
     ensures { result ≡ no_problem given.number given.place }
 {
@@ -108,7 +109,7 @@ fn words_of(told: &str) -> &str {
     }
 }
 
-// Says what failed and why.
+// Says what failed and why. The two below have a name each, so that each text stands once: what they have in common is here.
 fn fail<W: Write, C: Clock>(errors: &mut W, clock: &C, what: &[u8], error: i32) {
     let told = InlineText::<256>::of(io::Error::from_raw_os_error(error));
     let _ = outlet::put(errors, clock, what);

@@ -2,12 +2,13 @@
 // for room; four bytes of room for each byte of an answer are always enough.
 #![tactic(auto)]
 
-ghost use Rattle.std.specs.Prelude.{◌≡◌, true, length};
+ghost use Rattle.std.specs.Prelude.{◌≡◌, true, false, IfSome, None, length};
 ghost use Rattle.printer.specs.Placed.{Placed};
 ghost use Rattle.layout.specs.Parts.{part_fits};
 ghost use Rattle.printer.specs.Lines.{decimal, spaced, images, accepted_line, refused_line, bind_line, fresh_line, field_line};
 ghost use Rattle.printer.specs.Lines.{answer_lines, solver_lines, judge_line, problem_lines, cut_line};
 ghost use Rattle.printer.specs.Kinds.{kind_of};
+ghost use Rattle.printer.specs.Tags.{tag_of};
 
 use field::AtFront;
 use names::{Atom, NodeId, Variable};
@@ -25,13 +26,36 @@ pub fn put(out: &mut [u8], at: usize, s: &[u8]) -> usize
     at + fits
 }
 
-// Lent bytes, and the index at which the next text starts.
+// What a field of an answer says, told by its tag and by how long its body is.
+#[derive(Clone, Copy, PartialEq, Eq)]
+enum Part {
+    Steps,
+    Binding,
+    Fact,
+}
+
+// Nothing for a field that no answer has.
+#[tactic(auto, unfolding(layout::specs::Parts::part_fits))]
+fn part_of(tag: u8, n: usize) -> Option<Part>
+    ensures some { IfSome result (λ part. (tag ≡ tag_of part) × (part_fits tag n ≡ true)) }
+    ensures none { result ≡ None → part_fits tag n ≡ false }
+{
+    match tag {
+        0x4e if n == 4 => Some(Part::Steps),
+        0x40 if 3 <= n => Some(Part::Binding),
+        0x41 if n == 2 => Some(Part::Fact),
+        _ => None,
+    }
+}
+
+// Lent bytes, and the index at which the next text starts. The public functions keep out and at: what they promise may not change.
 #[derive(Drop)]
 struct Lines<'a> {
     out: &'a mut [u8],
     at: usize,
 }
 
+// `same`: that a field keeps its reference is not known of a struct behind &mut, so each method says it.
 impl<'a> Lines<'a> {
     fn put(&mut self, s: &[u8])
         ensures same { self.new.out.ghost_name ≡ self.old.out.ghost_name }
@@ -41,7 +65,7 @@ impl<'a> Lines<'a> {
     }
 
     // By hand, and not by Display: `write!` promises its text only where it came back Ok, and no clause of it says that it does. What a line
-    // puts here cannot fail.
+    // puts here cannot fail. A digit is cast: try_from would bring a branch that is never taken.
     fn decimal(&mut self, x: usize)
         ensures same { self.new.out.ghost_name ≡ self.old.out.ghost_name }
         ensures placed { Placed self.old.out.now self.old.at (decimal x) self.new.at self.new.out.now }
@@ -78,6 +102,7 @@ impl<'a> Lines<'a> {
         ensures placed { Placed self.old.out.now self.old.at (accepted_line steps) self.new.at self.new.out.now }
     {
         self.put(b"accepted ");
+        // Of a u32 no From makes a usize.
         self.decimal(steps as usize);
         self.put(b"\n");
     }
@@ -114,15 +139,17 @@ impl<'a> Lines<'a> {
     }
 
     #[tactic(auto, using(crate::proofs::Walking::steps_length, crate::proofs::Walking::binding_length, crate::proofs::Walking::fact_length))]
-    fn field(&mut self, tag: u8, body: &[u8])
-        requires { part_fits tag (length body.now) ≡ true }
+    fn field(&mut self, part: Part, body: &[u8])
+        requires { part_fits (tag_of part) (length body.now) ≡ true }
         ensures same { self.new.out.ghost_name ≡ self.old.out.ghost_name }
-        ensures placed { Placed self.old.out.now self.old.at (field_line tag body.now) self.new.at self.new.out.now }
+        ensures placed { Placed self.old.out.now self.old.at (field_line (tag_of part) body.now) self.new.at self.new.out.now }
     {
-        match tag {
-            0x4e => self.accepted(field::four(body, 0)),
-            0x40 => self.bind(Variable(body[0]), NodeId(field::two(body, 1)), &body[3..]),
-            _ => self.fresh(Atom(body[0]), Variable(body[1])),
+        match part {
+            Part::Steps => self.accepted(field::four(body, 0)),
+            Part::Binding => {
+                self.bind(Variable(body[0]), NodeId(field::two(body, 1)), &body[3..]);
+            }
+            Part::Fact => self.fresh(Atom(body[0]), Variable(body[1])),
         }
     }
 
@@ -137,10 +164,10 @@ impl<'a> Lines<'a> {
         }
         let mut rest = answer;
         while let AtFront::Whole(tag, n) = field::front(rest) {
-            if !is_known(tag, n) {
+            let Some(part) = part_of(tag, n) else {
                 return;
-            }
-            self.field(tag, field::body(rest, n));
+            };
+            self.field(part, field::body(rest, n));
             rest = &rest[3 + n..];
         }
     }
@@ -169,18 +196,6 @@ impl<'a> Lines<'a> {
         } else {
             self.put(b"holds\n");
         }
-    }
-}
-
-#[tactic(auto, unfolding(layout::specs::Parts::part_fits))]
-fn is_known(tag: u8, n: usize) -> bool
-    ensures { result ≡ part_fits tag n }
-{
-    match tag {
-        0x4e => n == 4,
-        0x40 => 3 <= n,
-        0x41 => n == 2,
-        _ => false,
     }
 }
 
@@ -231,7 +246,7 @@ pub fn cut_line(out: &mut [u8], at: usize, count: usize) -> usize
     lines.at
 }
 
-// What a printed line says.
+// What a printed line says. Other is kind_of's sixth: the definition has all six.
 #[derive(Clone, Copy, PartialEq, Eq)]
 pub enum Kind {
     Accepted,

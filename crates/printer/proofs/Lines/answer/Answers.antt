@@ -17,10 +17,10 @@ returns c = record {
   placed = midway_over _ _ _ _ _ _ c.loop-tag.invariant.1 (λ tag n e. c.in_default.not-Whole tag n (c.front.ensures ∙ e));
 }
 
-pub returns-then-not-is_known-clause-placed : goal.returns-then-not-is_known-clause-placed
-returns-then-not-is_known-clause-placed c =
+pub returns-in_default-part_of-clause-placed : goal.returns-in_default-part_of-clause-placed
+returns-in_default-part_of-clause-placed c =
     midway_unknown _ _ _ _ _ _ c.loop-tag.invariant.1 c.in-Whole.tag c.in-Whole.n (sym c.in-Whole.ensures)
-    (sym c.is_known.ensures ∙ c.if-not-is_known.true)
+    (c.part_of.ensures.none c.in_default-part_of.is)
 
 pub body-requires : goal.body-requires
 body-requires c = whole_fits _ _ _ _ _ _ c.loop-tag.invariant.1 c.in-Whole.tag c.in-Whole.n (sym c.in-Whole.ensures)
@@ -28,7 +28,7 @@ body-requires c = whole_fits _ _ _ _ _ _ c.loop-tag.invariant.1 c.in-Whole.tag c
 pub field-requires : goal.field-requires
 field-requires c =
     rw (c.body.ensures, body_length _ _ _ _ _ _ c.loop-tag.invariant.1 c.in-Whole.tag c.in-Whole.n (sym c.in-Whole.ensures))
-    (sym c.is_known.ensures ∙ c.if-not-is_known.false)
+    (rw (← c.in-Some.ensures.some.0) c.in-Some.ensures.some.1)
 
 pub overflow_add-rest : goal.overflow_add-rest
 overflow_add-rest c = omega (arith, whole_fits _ _ _ _ _ _ c.loop-tag.invariant.1 c.in-Whole.tag c.in-Whole.n (sym c.in-Whole.ensures))
@@ -53,5 +53,5 @@ loop-tag-preserved c = (
   c.field.ensures.same ∙ c.loop-tag.invariant.0,
   rw (passed_on (3 + c.in-Whole.n) c.loop-tag.rest.now)
       (midway_more _ _ _ _ _ _ c.loop-tag.invariant.1 c.in-Whole.tag c.in-Whole.n (sym c.in-Whole.ensures) _ _
-      (sym c.is_known.ensures ∙ c.if-not-is_known.false) (rw c.body.ensures at c.field.ensures.placed)),
+      c.in-Some.ensures.some.1 (rw (c.in-Some.ensures.some.0, ← c.body.ensures) c.field.ensures.placed)),
 )

@@ -1,14 +1,18 @@
--- The line of one field, by its tag.
-use Rattle.std.proofs.Common.{arith}
+-- The line of one field, by what it says.
+use Rattle.std.proofs.Common.{arith, ap}
+use Rattle.printer.specs.Tags.{tag_of}
 use Rattle.printer.proofs.Walking.{steps_line, binding_line, fact_line, passed_on}
 use Rattle.printer.proofs.Lines.field.Goals as goal
 
-pub returns-in-78-clause-placed : goal.returns-in-78-clause-placed
-returns-in-78-clause-placed c = rw (steps_line _ c.args.body.now c.in-78.is, ← c.four.ensures) c.accepted.ensures.placed
+pub returns-in-Steps-clause-placed : goal.returns-in-Steps-clause-placed
+returns-in-Steps-clause-placed c = rw (steps_line _ c.args.body.now (ap tag_of c.in-Steps.is), ← c.four.ensures) c.accepted.ensures.placed
 
-pub returns-in-64-clause-placed : goal.returns-in-64-clause-placed
-returns-in-64-clause-placed c =
-    rw (binding_line _ c.args.body.now (λ e. omega arith) c.in-64.is, ← passed_on 3 c.args.body.now, ← c.two.ensures) c.bind.ensures.placed
+pub returns-in-Binding-clause-placed : goal.returns-in-Binding-clause-placed
+returns-in-Binding-clause-placed c =
+    let is = ap tag_of c.in-Binding.is in
+    rw (binding_line _ c.args.body.now (λ e. omega (arith, is, e)) is, ← passed_on 3 c.args.body.now, ← c.two.ensures) c.bind.ensures.placed
 
-pub returns-in_default-clause-placed : goal.returns-in_default-clause-placed
-returns-in_default-clause-placed c = rw (fact_line c.args.tag c.args.body.now (λ e. omega arith) (λ e. omega arith)) c.fresh.ensures.placed
+pub returns-in-Fact-clause-placed : goal.returns-in-Fact-clause-placed
+returns-in-Fact-clause-placed c =
+    let is = ap tag_of c.in-Fact.is in
+    rw (fact_line (tag_of c.args.part) c.args.body.now (λ e. omega (arith, is, e)) (λ e. omega (arith, is, e))) c.fresh.ensures.placed
