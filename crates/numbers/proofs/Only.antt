@@ -6,7 +6,7 @@ use Rattle.numbers.specs.declared.Reason.{Reason}
 use Rattle.numbers.specs.declared.Reason.TheVariants as reason
 use Rattle.numbers.specs.declared.Refusal.{Refusal}
 use Rattle.numbers.specs.declared.Given.{Given}
-use Rattle.numbers.specs.Numbers.{Result, number_of, solver_gives, judge_gives, result_of, judgement_given}
+use Rattle.numbers.specs.Numbers.{Result, Judgement, number_of, solver_gives, judge_gives, result_of, judgement_given}
 
 -- The table's rows in its order: that of the number 1 comes first.
 abbrev reasons : List Reason
@@ -57,3 +57,7 @@ pub one_given : (r u : Given) (d e : List ℕ)
     → (r ≡ u) × (d ≡ e)
 one_given r u d e q =
     (ap {B = Given} (λ (x : Result). record { number = x.number; place = x.place }) q, ap (λ (x : Result). x.output) q)
+
+-- Without the output.
+pub one_given_judgement : (r u : Given) → ◌≡◌ {A = Judgement} (r.number, r.place) (u.number, u.place) → r ≡ u
+one_given_judgement r u q = ap {B = Given} (λ (x : Judgement). record { number = x.0; place = x.1 }) q

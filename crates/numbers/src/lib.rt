@@ -92,22 +92,26 @@ fn accepted(place: usize) -> Given
     Given { number: 0, place }
 }
 
-// Accepted: the place is the answer's length.
-pub fn solved(solved: Solved) -> Given
-    ensures { result ≡ solver_gives solved }
-{
-    match solved {
-        Ok(length) => accepted(length),
-        Err(refusal) => Given::from(refusal),
+impl From<Solved> for Given {
+    ghost from_gives = { λ solved given. given ≡ solver_gives solved };
+
+    // Accepted: the place is the answer's length.
+    fn from(solved: Solved) -> Given {
+        match solved {
+            Ok(length) => accepted(length),
+            Err(refusal) => Given::from(refusal),
+        }
     }
 }
 
-// Holds: the place is 0.
-pub fn judged(judged: Judged) -> Given
-    ensures { result ≡ judge_gives judged }
-{
-    match judged {
-        Ok(()) => accepted(0),
-        Err(refusal) => Given::from(refusal),
+impl From<Judged> for Given {
+    ghost from_gives = { λ judged given. given ≡ judge_gives judged };
+
+    // Holds: the place is 0.
+    fn from(judged: Judged) -> Given {
+        match judged {
+            Ok(()) => accepted(0),
+            Err(refusal) => Given::from(refusal),
+        }
     }
 }
