@@ -16,6 +16,7 @@ use rows::Row;
 use sets::VariableSet;
 
 // Three columns: the variables in the order in which they were bound; by variable its value's node; by variable the number of the equation.
+// Columns and not a table of structs: include/cheesetrestle.h has this form (C interface), and lent memory has no other, as there is no heap.
 pub type Made = [[u16; MOST_VARIABLES]; 3];
 
 pub const EMPTY_MADE: Made = [[0; MOST_VARIABLES]; 3];
@@ -32,7 +33,7 @@ pub type Values = [Row; MOST_VARIABLES];
 pub const EMPTY_VALUES: Values = [rows::EMPTY; MOST_VARIABLES];
 
 // "The binding holds the right side's node and the images acting on it from outside."
-#[derive(Clone, Copy)]
+#[derive(Clone, Copy, PartialEq, Eq)]
 pub struct Value {
     pub images: Permutation,
     pub node: NodeId,
@@ -57,7 +58,8 @@ impl<'a> Bindings<'a> {
         number: u8,
     ) -> VariableSet
         requires { Keeps self.old.made.now k bound.0 × (member bound.0 x.0 ≡ false) × (x.0 < 64) }
-        ensures { Added (binding_tables self.old.made.now self.old.values.now) k bound.0 x.0 value number
+        ensures same { (self.new.made.ghost_name ≡ self.old.made.ghost_name) × (self.new.values.ghost_name ≡ self.old.values.ghost_name) }
+        ensures added { Added (binding_tables self.old.made.now self.old.values.now) k bound.0 x.0 value number
             (binding_tables self.new.made.now self.new.values.now) result.0 }
     {
         let i = usize::from(x.0);
@@ -73,7 +75,7 @@ impl<'a> Bindings<'a> {
         bound.with(x)
     }
 
-    // The variable that was bound after i others.
+    // The variable that was bound after i others. Its number is less than a byte holds: try_from would bring a branch that is never taken.
     pub fn variable_at(&self, i: usize) -> Variable
         requires { (i < 64) × (variable_at self.now.made.now i < 64) }
         ensures { result.0 ≡ variable_at self.now.made.now i }

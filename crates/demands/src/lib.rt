@@ -18,6 +18,7 @@ use sets::{AtomSet, Set};
 pub type Sets = [u32; MOST_NODES];
 
 // Two columns: the sets by node, and those by variable.
+// Columns and not a table of structs: include/cheesetrestle.h has this form (C interface), and lent memory has no other, as there is no heap.
 pub type Asked = [Sets; 2];
 
 pub const EMPTY_ASKED: Asked = [[0; MOST_NODES]; 2];
@@ -37,6 +38,7 @@ pub const NODES: usize = 0;
 
 pub const VARIABLES: usize = 1;
 
+// n beside the sets: lent as a part by clear, the loan within a loan met no clause of fill's.
 #[tactic(auto, unfolding(crate::specs::Demands::emptied))]
 fn empty_rows(sets: &mut [u32], n: usize)
     requires { n ≤ length sets.old }
@@ -54,7 +56,8 @@ pub fn clear(asked: &mut Asked, nodes: usize, variables: usize)
     empty_rows(&mut asked[VARIABLES], variables);
 }
 
-// The atoms asked of a node, and of a variable.
+// The atoms asked of a node, and of a variable. One for each kind of name: a trait of the two would have the column and the index for members, and be
+// no plainer.
 pub fn of_node(asked: &Asked, n: NodeId) -> AtomSet
     requires { n.0 < 512 }
     ensures { result.0 ≡ asked_of_node asked.now n.0 }
@@ -68,7 +71,7 @@ pub fn of_variable(asked: &Asked, x: Variable) -> AtomSet
     Set(asked[VARIABLES][usize::from(x.0)])
 }
 
-// Whether one of the first n sets has an atom. They are joined with no test between them, so that many are taken at once.
+// Whether one of the first n sets has an atom. They are joined with no test between them, so that many are taken at once. n beside, as above.
 pub fn any(sets: &[u32], n: usize) -> bool
     requires { n ≤ length sets.now }
     ensures { result ≡ false → (i : ℕ) → i < n → (a : ℕ) → member (get_or sets.now i 0) a ≡ false }
@@ -122,6 +125,7 @@ fn mark(sets: &mut [u32], numbers: &mut [u8], i: usize, a: Atom, number: u8)
     numbers[usize::from(a.0)] = number;
 }
 
+// The atoms come one by one from below, as members lists them: a set has no iterator, and one for this loop would be no plainer.
 fn mark_all(sets: &mut [u32], numbers: &mut [u8], i: usize, atoms: AtomSet, number: u8)
     requires { (i < length sets.old) × (length numbers.old ≡ 32) }
     ensures { line sets.new numbers.new
@@ -145,7 +149,8 @@ impl<'a> Demands<'a> {
     // "a is demanded fresh for t": of the side's node it is the atom that the side's images send to a.
     pub fn raise_side(&mut self, a: Atom, p: Permutation, atoms: usize, node: NodeId, number: u8)
         requires { (atoms ≤ 32) × (a.0 < atoms) × (node.0 < 512) }
-        ensures { SideRaised a.0 (table atoms p) node.0 number
+        ensures same { (self.new.asked.ghost_name ≡ self.old.asked.ghost_name) × (self.new.firsts.ghost_name ≡ self.old.firsts.ghost_name) }
+        ensures raised { SideRaised a.0 (table atoms p) node.0 number
             (sheet self.old.asked.now self.old.firsts.now) (sheet self.new.asked.now self.new.firsts.now) }
     {
         let b = rows::preimage(&rows::keep(p), atoms, a);
@@ -155,7 +160,8 @@ impl<'a> Demands<'a> {
     // The same where that atom is known: the one that a side's images send to the atom demanded.
     pub fn raise_node(&mut self, b: Atom, node: NodeId, number: u8)
         requires { (b.0 < 32) × (node.0 < 512) }
-        ensures { NodeRaised b.0 node.0 number
+        ensures same { (self.new.asked.ghost_name ≡ self.old.asked.ghost_name) × (self.new.firsts.ghost_name ≡ self.old.firsts.ghost_name) }
+        ensures raised { NodeRaised b.0 node.0 number
             (sheet self.old.asked.now self.old.firsts.now) (sheet self.new.asked.now self.new.firsts.now) }
     {
         let i = usize::from(node.0);
@@ -167,7 +173,8 @@ impl<'a> Demands<'a> {
     // "each atom of the disagreement set is demanded fresh for X"
     pub fn raise_variable(&mut self, atoms: AtomSet, x: Variable, number: u8)
         requires { x.0 < 64 }
-        ensures { VariableRaised atoms.0 x.0 number
+        ensures same { (self.new.asked.ghost_name ≡ self.old.asked.ghost_name) × (self.new.firsts.ghost_name ≡ self.old.firsts.ghost_name) }
+        ensures raised { VariableRaised atoms.0 x.0 number
             (sheet self.old.asked.now self.old.firsts.now) (sheet self.new.asked.now self.new.firsts.now) }
     {
         let i = usize::from(x.0);

@@ -23,6 +23,7 @@ use sets::AtomSet;
 pub const ROOM: usize = 576;
 
 // Of each equation its number and the nodes of its two sides, and the images of the two sides.
+// Two tables and not one of structs: include/cheesetrestle.h has this form (C interface), and lent memory has no other, as there is no heap.
 pub type Heads = [[u16; 3]; ROOM];
 
 pub const EMPTY_HEADS: Heads = [[0; 3]; ROOM];
@@ -32,7 +33,7 @@ pub type Images = [[Row; 2]; ROOM];
 pub const EMPTY_IMAGES: Images = [[rows::EMPTY; 2]; ROOM];
 
 // "Each side is a permutation and a node", and "what comes of an equation keeps its number".
-#[derive(Clone, Copy)]
+#[derive(Clone, Copy, PartialEq, Eq)]
 pub struct Pending {
     pub number: u8,
     pub left: Permutation,
@@ -61,7 +62,8 @@ impl<'a> Stack<'a> {
     // nodes 3% more instructions.
     pub fn push(&mut self, n: usize, e: Pending)
         requires { n < most_waiting }
-        ensures { Pushed (stack_tables self.old.heads.now self.old.images.now) n e
+        ensures same { (self.new.heads.ghost_name ≡ self.old.heads.ghost_name) × (self.new.images.ghost_name ≡ self.old.images.ghost_name) }
+        ensures pushed { Pushed (stack_tables self.old.heads.now self.old.images.now) n e
             (stack_tables self.new.heads.now self.new.images.now) }
     {
         let left = rows::keep(e.left);
@@ -95,9 +97,11 @@ impl<'a> Stack<'a> {
     }
 
     // The problem's equations, "the file's first on top": so the last is pushed first. count is their number.
+    // k is less than 64, so a byte holds it: try_from would bring a branch that is never taken.
     pub fn start(&mut self, input: &Input, count: usize)
         requires { Standing input.now.bytes.now input.now.places.now × (count ≡ length (problem_of input.now.bytes.now).equations) }
-        ensures { Started (problem_of input.now.bytes.now).equations (stack_tables self.old.heads.now self.old.images.now) count
+        ensures same { (self.new.heads.ghost_name ≡ self.old.heads.ghost_name) × (self.new.images.ghost_name ≡ self.old.images.ghost_name) }
+        ensures started { Started (problem_of input.now.bytes.now).equations (stack_tables self.old.heads.now self.old.images.now) count
             (stack_tables self.new.heads.now self.new.images.now) }
     {
         let p = permutation::identity(MOST_ATOMS);
@@ -167,6 +171,7 @@ impl<'a> Stack<'a> {
     // The right side at place n is put under the swap of a and b.
     pub fn swap_right(&mut self, n: usize, a: Atom, b: Atom)
         requires { n < most_waiting }
+        ensures same { (self.new.heads.ghost_name ≡ self.old.heads.ghost_name) × (self.new.images.ghost_name ≡ self.old.images.ghost_name) }
         ensures heads { self.new.heads.now ≡ self.old.heads.now }
         ensures images { RightSwapped a.0 b.0 n self.old.images.now self.new.images.now }
     {
@@ -178,6 +183,7 @@ impl<'a> Stack<'a> {
     // Other nodes for the equation at place n, under the same images.
     pub fn renew(&mut self, n: usize, number: u8, left: NodeId, right: NodeId)
         requires { n < most_waiting }
+        ensures same { (self.new.heads.ghost_name ≡ self.old.heads.ghost_name) × (self.new.images.ghost_name ≡ self.old.images.ghost_name) }
         ensures heads { Renewed n number left right self.old.heads.now self.new.heads.now }
         ensures images { self.new.images.now ≡ self.old.images.now }
     {
@@ -189,7 +195,8 @@ impl<'a> Stack<'a> {
     // only place where rows are copied: what waits and what goes on have the same images from here, and may come to have others.
     pub fn split(&mut self, n: usize, number: u8, left: NodeId, right: NodeId)
         requires { n + 1 < most_waiting }
-        ensures { Split n number left right (stack_tables self.old.heads.now self.old.images.now)
+        ensures same { (self.new.heads.ghost_name ≡ self.old.heads.ghost_name) × (self.new.images.ghost_name ≡ self.old.images.ghost_name) }
+        ensures split { Split n number left right (stack_tables self.old.heads.now self.old.images.now)
             (stack_tables self.new.heads.now self.new.images.now) }
     {
         let above = n + 1;

@@ -5,9 +5,9 @@ use Rattle.bindings.proofs.Laws.{keeps_room, room, added}
 use Rattle.bindings.proofs.Bindings.add.Goals as goal
 
 -- Each column was seen to have its place where it was about to be written.
-pub returns : goal.returns
+pub returns-clause-added : goal.returns-clause-added
 unfolding with_binding put_in
-returns c =
+returns-clause-added c =
     let a = c.args in
     let made = a.self.now.made.now in
     let few = keeps_room _ _ _ c.requires.0 a.x.0 c.requires.2 c.requires.1 in

@@ -3,8 +3,8 @@ use Rattle.demands.specs.Demands.{sheet, row_of, marked}
 use Rattle.demands.proofs.Laws.{row_there, marked_row, node_raised}
 use Rattle.demands.proofs.Demands.raise_node.Goals as goal
 
-pub returns : goal.returns
-returns c =
+pub returns-clause-raised : goal.returns-clause-raised
+returns-clause-raised c =
     let a = c.args in
     let asked = a.self.now.asked.now in
     let firsts = a.self.now.firsts.now in

@@ -15,5 +15,5 @@ raise_node-requires c =
     let same = rw (c.keep.ensures, images_in_kept) at c.preimage-b.ensures in
     (omega (arith, same, long, c.requires.0, sent), c.requires.2)
 
-pub returns : goal.returns
-returns c = side_raised (rw (c.preimage-b.ensures, c.keep.ensures, images_in_kept) at c.raise_node.ensures)
+pub returns-clause-raised : goal.returns-clause-raised
+returns-clause-raised c = side_raised (rw (c.preimage-b.ensures, c.keep.ensures, images_in_kept) at c.raise_node.ensures.raised)

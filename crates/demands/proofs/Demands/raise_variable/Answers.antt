@@ -4,8 +4,8 @@ use Rattle.demands.specs.Demands.{sheet, marked_all}
 use Rattle.demands.proofs.Laws.{row_there, marked_all_row, variable_raised}
 use Rattle.demands.proofs.Demands.raise_variable.Goals as goal
 
-pub returns : goal.returns
-returns c =
+pub returns-clause-raised : goal.returns-clause-raised
+returns-clause-raised c =
     let a = c.args in
     let asked = a.self.now.asked.now in
     let firsts = a.self.now.firsts.now in

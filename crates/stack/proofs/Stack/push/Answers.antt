@@ -3,9 +3,9 @@ use Rattle.stack.specs.Stack.{stack_tables, with_equation}
 use Rattle.stack.proofs.Laws.{Room, both_written, pushed}
 use Rattle.stack.proofs.Stack.push.Goals as goal
 
-pub returns : goal.returns
+pub returns-clause-pushed : goal.returns-clause-pushed
 unfolding with_equation
-returns c =
+returns-clause-pushed c =
     let a = c.args in
     let heads = a.self.now.heads.now in
     let images = a.self.now.images.now in
