@@ -37,6 +37,15 @@ tables_in w =
     tables_of (stack_tables w.stack.heads.now w.stack.images.now) (binding_tables w.bindings.made.now w.bindings.values.now)
     (sheet w.demands.asked.now w.demands.firsts.now)
 
+-- The tables are those still that were lent.
+pub record SameTables (before after : Work) : Type 0 where
+  pub heads : after.stack.heads.ghost_name ≡ before.stack.heads.ghost_name
+  pub images : after.stack.images.ghost_name ≡ before.stack.images.ghost_name
+  pub made : after.bindings.made.ghost_name ≡ before.bindings.made.ghost_name
+  pub values : after.bindings.values.ghost_name ≡ before.bindings.values.ghost_name
+  pub asked : after.demands.asked.ghost_name ≡ before.demands.asked.ghost_name
+  pub firsts : after.demands.firsts.ghost_name ≡ before.demands.firsts.ghost_name
+
 -- How far the run is after a step that went on.
 abbrev pub gone_to : ℕ → Set ℕ → ℕ → State
 gone_to waiting bound count = record { waiting = waiting; bound = bound; count = count }

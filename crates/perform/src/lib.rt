@@ -11,7 +11,7 @@ ghost use Rattle.run.specs.Run.{under};
 ghost use Rattle.bindings.specs.Bindings.{binding_tables, Keeps};
 ghost use Rattle.demands.specs.Demands.{sheet};
 ghost use Rattle.side.specs.Side.{side_held};
-ghost use Rattle.perform.specs.Performed.{tables_in, gone_to, whole_held, step_told, DisagreementRaised, BoundTo, Hangs, Fit, Performed};
+ghost use Rattle.perform.specs.Performed.{tables_in, gone_to, whole_held, step_told, SameTables, DisagreementRaised, BoundTo, Hangs, Fit, Performed};
 
 use bindings::{Bindings, Value};
 use demands::Demands;
@@ -33,7 +33,7 @@ pub struct Work<'a> {
 }
 
 // How far the run is: how many equations wait, which variables are bound, and how many.
-#[derive(Clone, Copy)]
+#[derive(Clone, Copy, PartialEq, Eq)]
 pub struct State {
     pub waiting: usize,
     pub bound: VariableSet,
@@ -74,7 +74,8 @@ fn same_variable(
 )
     requires { Standing input.now.bytes.now input.now.places.now × (atoms ≡ (problem_of input.now.bytes.now).atoms)
         × Hangs input.now.bytes.now left.now.node.0 × Hangs input.now.bytes.now right.now.node.0 × (x.0 < 64) }
-    ensures { DisagreementRaised (whole_held input.now.bytes.now atoms left.now) (whole_held input.now.bytes.now atoms right.now) x.0 number
+    ensures same { (demands.new.asked.ghost_name ≡ demands.old.asked.ghost_name) × (demands.new.firsts.ghost_name ≡ demands.old.firsts.ghost_name) }
+    ensures raised { DisagreementRaised (whole_held input.now.bytes.now atoms left.now) (whole_held input.now.bytes.now atoms right.now) x.0 number
         (sheet demands.old.asked.now demands.old.firsts.now) (sheet demands.new.asked.now demands.new.firsts.now) }
 {
     let p = side::whole(input, atoms, left.images, left.node);
@@ -109,7 +110,8 @@ fn bind(
 ) -> State
     requires { Standing input.now.bytes.now input.now.places.now × (atoms ≡ (problem_of input.now.bytes.now).atoms) × Hangs input.now.bytes.now side.now.node.0
         × Keeps bindings.old.made.now state.count state.bound.0 × (member state.bound.0 x.0 ≡ false) × (x.0 < 64) }
-    ensures { BoundTo atoms number x.0
+    ensures same { (bindings.new.made.ghost_name ≡ bindings.old.made.ghost_name) × (bindings.new.values.ghost_name ≡ bindings.old.values.ghost_name) }
+    ensures bound { BoundTo atoms number x.0
         (under (inverted (whole_held input.now.bytes.now atoms side.now)) (side_held atoms other.now))
         (binding_tables bindings.old.made.now bindings.old.values.now) state
         (binding_tables bindings.new.made.now bindings.new.values.now) result }
@@ -141,10 +143,12 @@ pub fn perform(
     right: Side,
 ) -> Result<State, Reason>
     requires { Fit input.now.bytes.now input.now.places.now atoms state work.old.bindings.made.now left right act }
-    ensures { Performed input.now.bytes.now atoms number (tables_in work.old) state (tables_in work.new) result
+    ensures same { SameTables work.old work.new }
+    ensures performed { Performed input.now.bytes.now atoms number (tables_in work.old) state (tables_in work.new) result
         (step_told input.now.bytes.now atoms left right act) }
 {
     let n = state.waiting;
+    // By the act that was told, and not by what decides it: a step is told before it is done (docs/DECISIONS.md, 31).
     match act {
         Act::Done => Ok(state),
         Act::Clash => Err(Reason::Clash),

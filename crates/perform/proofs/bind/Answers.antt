@@ -10,7 +10,7 @@ overflow_add-result c =
     let few : c.args.state.count ≤ 64 = keeps_few _ _ _ c.requires.3 in
     omega (arith, few)
 
-pub returns : goal.returns
-returns c =
-    bound_to c.add-bound.ensures
+pub returns-clause-bound : goal.returns-clause-bound
+returns-clause-bound c =
+    bound_to c.add-bound.ensures.added
     (value_is _ _ _ _ _ c.args.other.now.images c.under_inverse-images.result c.args.other.now.node c.whole-outer.ensures c.under_inverse-images.ensures)
