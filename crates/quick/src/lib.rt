@@ -12,7 +12,7 @@ ghost use Rattle.run.specs.Circle.{Permuting};
 ghost use Rattle.stack.specs.Stack.{most_waiting};
 ghost use Rattle.stack.specs.InPlace.{left_at, right_at, Renewed};
 ghost use Rattle.bindings.specs.Bindings.{binding_tables};
-ghost use Rattle.perform.specs.Performed.{tables_in};
+ghost use Rattle.perform.specs.Performed.{SameTables, tables_in};
 ghost use Rattle.quick.specs.Going.{SomeGoing, CarriedOn};
 ghost use Rattle.quick.specs.Met.{side_under, LeadsTo, Facing, met_in, OthersStay, Taken, Meets};
 ghost use Rattle.quick.specs.declared.Meeting.TheVariants.{Leave, Done, Part};
@@ -25,14 +25,15 @@ use sets::VariableSet;
 use stack::Stack;
 
 // How many equations wait then, and how many steps were taken.
-#[derive(Clone, Copy)]
+#[derive(Clone, Copy, PartialEq, Eq)]
 pub struct Went {
     pub waiting: usize,
     pub steps: u32,
 }
 
 // What becomes of two nodes that meet: the equation is left as it is, it is done, or it goes on with one part of each, or with two.
-#[derive(Clone, Copy)]
+// Leave stays beside the others: down takes all four apart in one match, an Option around three would be two; and no Act: seven of its ten do not come here.
+#[derive(Clone, Copy, PartialEq, Eq)]
 enum Meeting {
     Leave,
     Done,
@@ -51,6 +52,7 @@ fn through(input: &Input, bindings: &Bindings, bound: VariableSet, node: NodeId)
     }
 }
 
+// Here and below n, number and atoms go beside each other: each meeting takes those that it needs, and n moves on where number and atoms stay.
 // "the same atom: done".
 fn atoms_meet(stack: &Stack, n: usize, atoms: usize, a: Atom, b: Atom) -> Meeting
     requires { (n < most_waiting) × (atoms ≤ 32) }
@@ -75,6 +77,7 @@ fn abstractions_meet(
 ) -> Meeting
     requires { (n < most_waiting) × (atoms ≤ 32) × (a.0 < atoms) × (k.0 < 512)
         × Permuting atoms (left_at atoms work.old.stack.images.now n) × Permuting atoms (right_at atoms work.old.stack.images.now n) }
+    ensures same { SameTables work.old work.new }
     ensures others { OthersStay work.old work.new }
     ensures taken { (result ≡ Part m k) × Taken atoms number n
         (abstractions (image (left_at atoms work.old.stack.images.now n) a.0) (side_under (left_at atoms work.old.stack.images.now n) m)
@@ -113,6 +116,7 @@ fn suspensions_meet(
     r: NodeId,
 ) -> Meeting
     requires { Facing input.now.bytes.now input.now.places.now atoms n work.old.stack.images.now l r }
+    ensures same { SameTables work.old work.new }
     ensures others { OthersStay work.old work.new }
     ensures meets { Meets input.now.bytes.now atoms bound.0 number n l r (met_in work.old) (met_in work.new) result }
 {
@@ -142,6 +146,7 @@ fn meet(
     r: NodeId,
 ) -> Meeting
     requires { Facing input.now.bytes.now input.now.places.now atoms n work.old.stack.images.now l r }
+    ensures same { SameTables work.old work.new }
     ensures others { OthersStay work.old work.new }
     ensures meets { Meets input.now.bytes.now atoms bound.0 number n l r (met_in work.old) (met_in work.new) result }
 {
@@ -163,6 +168,7 @@ fn meet(
 // The equation waits again, at its place.
 fn wait(stack: &mut Stack, n: usize, number: u8, l: NodeId, r: NodeId, steps: u32) -> Went
     requires { n < most_waiting }
+    ensures same { (stack.new.heads.ghost_name ≡ stack.old.heads.ghost_name) × (stack.new.images.ghost_name ≡ stack.old.images.ghost_name) }
     ensures images { stack.new.images.now ≡ stack.old.images.now }
     ensures waits { Renewed n number l r stack.old.heads.now stack.new.heads.now × (result ≡ record { waiting = n + 1; steps = steps }) }
 {
@@ -177,7 +183,9 @@ fn wait(stack: &mut Stack, n: usize, number: u8, l: NodeId, r: NodeId, steps: u3
 fn down(input: &Input, work: &mut Work, atoms: usize, state: State, taken: u32, limit: u32) -> Went
     requires standing { Standing input.now.bytes.now input.now.places.now × (atoms ≡ (problem_of input.now.bytes.now).atoms) × (state.waiting ≢ 0) }
     requires some_going { SomeGoing input.now.bytes.now atoms limit (tables_in work.old) taken state }
-    ensures { CarriedOn input.now.bytes.now atoms limit (tables_in work.old) taken state (tables_in work.new) result }
+    ensures same { SameTables work.old work.new }
+    ensures bindings { (tables_in work.new).bindings ≡ (tables_in work.old).bindings }
+    ensures carried { CarriedOn input.now.bytes.now atoms limit (tables_in work.old) taken state (tables_in work.new) result }
 {
     let mut n = state.waiting - 1;
     let top = work.stack.nodes_at(n);
@@ -221,7 +229,9 @@ pub fn go(
 ) -> Went
     requires standing { Standing input.now.bytes.now input.now.places.now × (atoms ≡ (problem_of input.now.bytes.now).atoms) }
     requires some_going { SomeGoing input.now.bytes.now atoms limit (tables_in work.old) taken start }
-    ensures { CarriedOn input.now.bytes.now atoms limit (tables_in work.old) taken start (tables_in work.new) result }
+    ensures same { SameTables work.old work.new }
+    ensures bindings { (tables_in work.new).bindings ≡ (tables_in work.old).bindings }
+    ensures carried { CarriedOn input.now.bytes.now atoms limit (tables_in work.old) taken start (tables_in work.new) result }
 {
     let mut went = Went {
         waiting: start.waiting,

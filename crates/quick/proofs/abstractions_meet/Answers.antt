@@ -19,7 +19,7 @@ pub returns-then-ne-clause-taken : goal.returns-then-ne-clause-taken
 returns-then-ne-clause-taken c =
     let differ = not-true _ (sym c.if-ne.ensures) in
     rw (← c.left_image-x.ensures, ← c.right_image-y.ensures)
-    (refl, other_abstractions c.requires.1 differ c.right_preimage-c.ensures c.raise_node.ensures c.swap_right.ensures.images)
+    (refl, other_abstractions c.requires.1 differ c.right_preimage-c.ensures c.raise_node.ensures.raised c.swap_right.ensures.images)
 
 pub returns-else-ne-clause-taken : goal.returns-else-ne-clause-taken
 returns-else-ne-clause-taken c =

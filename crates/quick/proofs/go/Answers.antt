@@ -5,5 +5,5 @@ use Rattle.quick.proofs.go.Goals as goal
 
 pub loop-went-smaller : goal.loop-went-smaller
 loop-went-smaller c =
-    let later = onward_some c.down-went.ensures (onward_some c.loop-went.invariant c.requires.some_going) in
-    omega (arith, c.down-went.ensures.more, later.going.within, c.if-went-before.false)
+    let later = onward_some c.down-went.ensures.carried (onward_some c.loop-went.invariant.0 c.requires.some_going) in
+    omega (arith, c.down-went.ensures.carried.more, later.going.within, c.if-went-before.false)

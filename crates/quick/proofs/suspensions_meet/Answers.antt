@@ -12,7 +12,7 @@ returns-then-not-is_empty-clause-meets c =
     let unbound : member c.args.bound.0 c.in-Some-Some.x.0 ≡ false = cc in
     let one = eqb-true _ _ (not-false _ (sym c.if-ne.ensures)) in
     met_demanding c.requires (bare_form _ _ c.in-Some-Some.ensures) (rw (← one) at (bare_form _ _ c.in-Some-Some.ensures'))
-    unbound c.disagreement-d.ensures c.raise_variable.ensures
+    unbound c.disagreement-d.ensures c.raise_variable.ensures.raised
 
 pub returns-else-not-is_empty-clause-meets : goal.returns-else-not-is_empty-clause-meets
 returns-else-not-is_empty-clause-meets c =
