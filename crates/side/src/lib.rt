@@ -15,7 +15,7 @@ use problem::{Form, Input};
 use sets::VariableSet;
 
 // "Each side is a permutation and a node."
-#[derive(Clone, Copy)]
+#[derive(Clone, Copy, PartialEq, Eq)]
 pub struct Side {
     pub images: Permutation,
     pub node: NodeId,
