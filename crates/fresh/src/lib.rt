@@ -23,7 +23,8 @@ use problem::{Form, Input};
 use sets::{AtomSet, VariableSet};
 use visit::{add_atoms, atoms_at, visit};
 
-// Two columns, as those of the demands: by node the atoms that were seen there, and by variable those that were passed on to its value.
+// Two columns, as those of the demands: by node the atoms that were seen there, and by variable those that were passed on to its value. Columns and no
+// table of structs: include/cheesetrestle.h has this form.
 pub type Marks = [Sets; 2];
 
 pub const EMPTY_MARKS: Marks = [[0; MOST_NODES]; 2];
@@ -34,6 +35,7 @@ const SEEN: usize = 0;
 const DONE: usize = 1;
 
 // The atoms that a variable's value sends into the set from outside: its images are read where they lie.
+// Where a number is cast to a smaller type here and below it is less than that type holds: `try_from` would bring a branch that is never taken.
 fn through_images(bindings: &Bindings, n: usize, x: Variable, atoms: AtomSet) -> AtomSet
     requires { (n ≤ 32) × (x.0 < 64) }
     ensures { result.0 ≡ sent_into n (image (images_of n bindings.now.values.now x.0)) atoms.0 }
@@ -66,7 +68,8 @@ fn waits(bound: VariableSet, asked: &Asked, marks: &Marks, x: Variable) -> bool
     bound.has(x) && !new_at(asked, marks, x).is_empty()
 }
 
-// The first variable that waits, of those from one up to another.
+// The first variable that waits, of those from one up to another. Of this and `last_below` not one is made: what they promise differs (of those from one
+// on, of those below it), and so do the invariants.
 fn next_between(
     bound: VariableSet,
     asked: &Asked,
@@ -114,15 +117,11 @@ fn next(
     ensures { Next bound.0 (asked_of_variables asked.now) (done_in marks.now) end.0 result }
 {
     if up {
-        return match next_between(bound, asked, marks, from, end) {
-            Some(x) => Some(x),
-            None => last_below(bound, asked, marks, from),
-        };
+        return next_between(bound, asked, marks, from, end).or_else(|| last_below(
+            bound, asked, marks, from,
+        ));
     }
-    match last_below(bound, asked, marks, from) {
-        Some(x) => Some(x),
-        None => next_between(bound, asked, marks, from, end),
-    }
+    last_below(bound, asked, marks, from).or_else(|| next_between(bound, asked, marks, from, end))
 }
 
 // Passes a bound variable's new atoms on to its value.
@@ -257,7 +256,8 @@ fn clashing(input: &Input, seen: &Sets, nodes: usize) -> bool
 
 // "the demands of tags 21 and 22 and those raised are resolved under the bindings": the atoms demanded of each node and of each variable come in the
 // table. True if a demand ends at an atom fresh for itself. The facts are then the atoms left at the unbound variables. It goes on to the end all the
-// same, so what is looked at does not depend on where a clash is.
+// same, so what is looked at does not depend on where a clash is. `variables` is a usize though it is cast to a variable's number: a u8 would ask more of who
+// calls.
 pub fn resolve(
     input: &Input,
     bound: VariableSet,

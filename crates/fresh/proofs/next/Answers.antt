@@ -1,10 +1,10 @@
 -- What is not found on the one side of the variable is looked for on the other.
-use Rattle.std.proofs.Common.{arith}
-use Rattle.fresh.proofs.Waiting.{next_below, next_found}
+use Rattle.std.proofs.Common.{rules}
+use Rattle.fresh.proofs.Waiting.{next_up, next_down}
 use Rattle.fresh.proofs.next.Goals as goal
 
-pub returns-in-None : goal.returns-in-None
-returns-in-None c = next_below (omega arith) c.in-None.ensures c.last_below.ensures
+pub returns-then-up : goal.returns-then-up
+returns-then-up c = next_up c.requires.0 _ _ c.or_else.ensures c.next_between.ensures (λ p. search rules)
 
-pub returns-in-Some-last_below : goal.returns-in-Some-last_below
-returns-in-Some-last_below c = next_found c.requires.0 c.in-Some-last_below.ensures
+pub returns : goal.returns
+returns c = next_down c.requires.0 _ _ c.or_else-2.ensures c.last_below.ensures (λ p. search rules)
