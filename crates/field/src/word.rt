@@ -1,4 +1,5 @@
 // The first eight bytes of a field as one number: its tag, its length and the numbers in a short body are read at once.
+// Where a number is cast to a smaller type it is less than that type holds: try_from would bring a branch that is never taken.
 ghost use Rattle.std.specs.Prelude.{◌≡◌, ◌+◌, ◌≤◌, ◌<◌, length};
 ghost use Rattle.field.specs.Field.{byte};
 ghost use Rattle.field.specs.Word as opened;
@@ -12,17 +13,14 @@ fn few(s: &[u8]) -> u64
 {
     let n = s.len();
     let high = u64::from(four(s, 0));
-    let low = (u64::from(four(s, n - 4)) << ((8 * (8 - n)) as u32)) % 4294967296;
+    let low = (u64::from(four(s, n - 4)) << (8 * (8 - n))) % 4294967296;
     high * 4294967296 + low
 }
 
 fn byte_or_zero(s: &[u8], i: usize) -> u8
     ensures { result ≡ byte s.now i }
 {
-    match s.get(i) {
-        Some(b) => *b,
-        None => 0,
-    }
+    s.get(i).copied().unwrap_or(0)
 }
 
 // Where fewer than four are left, zeros stand from the fourth on.

@@ -24,11 +24,15 @@ pub const FRESHNESS: usize = EQUATIONS + MOST_EQUATIONS;
 const FIELDS: usize = FRESHNESS + MOST_FRESHNESS;
 
 // Of each field its first eight bytes as one number (field::word); of a suspension the last two are its offset.
+// A column and no table of structs: include/cheesetrestle.h has this form, and lent memory has no other (no heap). The nodes' numbers are the format's.
 pub type Places = [u64; FIELDS];
 
 pub const EMPTY_PLACES: Places = [0; FIELDS];
 
 // An input that was read: its bytes, and the table that says what stands where. Everything after the reader looks at the two together (`look`).
+// Not compared: two inputs would be the same where their bytes lie in one place, and that is not what == asks.
+// Standing is no part of the type: form_of, bare, swaps_of, equation_at, freshness_at, which docs/PROVED.md names, ask for one node or field alone.
+// A type that says it of all would ask more of who calls them. Nor are the counts: most who look at an input want the atoms alone, or none of them.
 #[derive(Clone, Copy)]
 pub struct Input<'a> {
     pub bytes: &'a [u8],
@@ -53,7 +57,7 @@ pub enum Form {
 }
 
 // A problem's numbers. Its fields stay in the input, and the tables say where.
-#[derive(Clone, Copy)]
+#[derive(Clone, Copy, PartialEq, Eq)]
 pub struct Counts {
     pub atoms: u8,
     pub variables: u8,

@@ -87,6 +87,7 @@ impl<'a> Input<'a> {
         ensures { swaps_in result.now ≡ own_swaps (form_now self.now.bytes.now n.0) }
     {
         let w = self.places[usize::from(n.0)];
+        // No From makes a usize of a u64.
         let at = (w % 65536) as usize;
         let start = at + 4;
         let end = at + 3 + word::length(w);

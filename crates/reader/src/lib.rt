@@ -122,7 +122,7 @@ fn other(rest: &Rest, c: Counts, places: &mut Places, assumed: &mut Assumed) -> 
     }
 }
 
-// It is counted.
+// It is counted. Told by the tag once more: what other keeps goes back as a size alone, as Kept says it of each field.
 fn counted(w: u64, c: Counts) -> Counts
     requires { (tag_in w ≡ 0x20 → c.equations < 64) × (tag_in w ≡ 0x21 → c.freshness < 64) }
     ensures { result ≡ counted_in w c }
@@ -197,6 +197,7 @@ fn fields(
 }
 
 // Every byte string, and tables with any content. Only what is in use is written: a short problem pays for a short problem.
+// The three tables stay apart, as at nodes::put: docs/PROVED.md names read with ReadAs, which is of these tables.
 pub fn read(
     s: &[u8],
     places: &mut Places,

@@ -19,7 +19,7 @@ use variables::NodeVariables;
 // The bound in the type of the count: where the count is widened for it, the compiler keeps it twice, which costs two instructions a node.
 const NODES: u16 = MOST_NODES as u16;
 
-// Where the first field stands that is not such a node, and how many nodes there are then.
+// Where the first field stands that is not such a node, and how many nodes there are then. Not compared, as Rest.
 #[derive(Clone, Copy)]
 pub struct Reached<'a> {
     pub rest: Rest<'a>,
@@ -200,6 +200,7 @@ fn suspension(
     }
     let size = permuted(rest, c.atoms)?;
     let n = usize::from(c.nodes);
+    // The cast loses nothing (Rest's `short`): try_from would bring a branch that is never taken.
     keep::put_suspension(places, n, rest.word, rest.place as u16);
     variables::put(node_variables, n, VariableSet::empty().with(Variable(x)));
     Some(size)

@@ -6,6 +6,7 @@ ghost use Rattle.field.specs.Word.{eight};
 use field::word;
 
 // The bytes from the field's tag on, where the tag stands, and the first eight of the bytes as one number.
+// Not compared: of two rests of one input the places say it, and == would go over the bytes.
 #[derive(Clone, Copy)]
 pub struct Rest<'a> {
     pub bytes: &'a [u8],

@@ -8,7 +8,7 @@ use names::{Atom, MOST_NODES, NodeId, Variable};
 use numbers::Reason;
 use problem::{MOST_EQUATIONS, MOST_FRESHNESS};
 
-// How many there are so far: all that decides whether a field is at fault.
+// How many there are so far: all that decides whether a field is at fault. Not problem's Counts: a limit and protected variables decide nothing here.
 #[derive(Clone, Copy, PartialEq, Eq)]
 pub struct Sizes {
     pub atoms: u8,
@@ -67,6 +67,7 @@ impl Sizes {
     }
 }
 
+// A function for each row of document 01's table, as it stands there; what rows have in common are the tests above.
 #[tactic(auto, using(crate::proofs::ByTag::unit_said))]
 fn unit(b: &[u8], z: Sizes) -> Result<Said, Reason>
     ensures { result ≡ said_of (sized z) 0x10 b.now }
