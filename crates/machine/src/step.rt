@@ -4,7 +4,7 @@ ghost use Rattle.problem.specs.Held.{problem_of};
 ghost use Rattle.problem.specs.Look.{Standing};
 ghost use Rattle.bindings.specs.Bindings.{binding_tables, NodesThere};
 ghost use Rattle.side.specs.Side.{side_at, SideResolved};
-ghost use Rattle.perform.specs.Performed.{tables_in, Performed};
+ghost use Rattle.perform.specs.Performed.{tables_in, SameTables, Performed};
 ghost use Rattle.machine.specs.Step.{Present, step_here};
 
 use bindings::Bindings;
@@ -64,7 +64,8 @@ pub fn step(
 ) -> Result<State, Reason>
     requires { Present input.now.bytes.now input.now.places.now node_variables.now atoms protected.0
         (tables_in work.old).stack (tables_in work.old).bindings state e }
-    ensures { Performed input.now.bytes.now atoms e.number (tables_in work.old) state (tables_in work.new) result
+    ensures same { SameTables work.old work.new }
+    ensures performed { Performed input.now.bytes.now atoms e.number (tables_in work.old) state (tables_in work.new) result
         (step_here input.now.bytes.now atoms protected.0 (tables_in work.old).bindings state e) }
 {
     let left = resolved(input, &work.bindings, atoms, state, e.left, e.left_node);

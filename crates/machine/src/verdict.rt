@@ -1,6 +1,6 @@
 // The run: the problem's equations wait, and steps are taken until none is left, the limit is reached or a step refuses.
 ghost use Rattle.bindings.specs.Bindings.{bindings_of};
-ghost use Rattle.perform.specs.Performed.{tables_in};
+ghost use Rattle.perform.specs.Performed.{tables_in, SameTables};
 ghost use Rattle.problem.specs.Held.{problem_of};
 ghost use Rattle.quick.specs.Going.{end_of};
 ghost use Rattle.machine.specs.Run.{Founded, Began, Ready, RunEnded};
@@ -13,7 +13,7 @@ use sets::VariableSet;
 use variables::NodeVariables;
 
 // An accepted run: the steps taken, which variables are bound, and how many.
-#[derive(Clone, Copy)]
+#[derive(Clone, Copy, PartialEq, Eq)]
 pub struct Ran {
     pub steps: u32,
     pub bound: VariableSet,
@@ -33,7 +33,8 @@ fn go(
 ) -> Result<Ran, Refusal>
     requires { Began input.now.bytes.now input.now.places.now node_variables.now atoms (tables_in work.old).stack
         (tables_in work.old).bindings (tables_in work.old).sheet start }
-    ensures { RunEnded input.now.bytes.now atoms limit (tables_in work.new) result
+    ensures same { SameTables work.old work.new }
+    ensures ended { RunEnded input.now.bytes.now atoms limit (tables_in work.new) result
         (end_of input.now.bytes.now protected.0 limit (bindings_of atoms (tables_in work.old).bindings start.count)) }
 {
     let mut state = start;
@@ -55,6 +56,7 @@ fn go(
         if limit <= steps {
             return Err(refuse(Reason::Limit, place));
         }
+        // By a match: with map_err and ? it was tried, and at the exit of ? what the closure promises is out of the answers' reach.
         state = match step(input, node_variables, work, atoms, protected, state, e) {
             Ok(next) => next,
             Err(reason) => return Err(refuse(reason, place)),
@@ -77,7 +79,8 @@ pub fn run(
 ) -> Result<Ran, Refusal>
     requires ready { Ready input.now.bytes.now input.now.places.now node_variables.now c }
     requires founded { Founded (problem_of input.now.bytes.now) (tables_in work.old).bindings count bound.0 }
-    ensures { RunEnded input.now.bytes.now c.atoms c.limit (tables_in work.new) result
+    ensures same { SameTables work.old work.new }
+    ensures ended { RunEnded input.now.bytes.now c.atoms c.limit (tables_in work.new) result
         (end_of input.now.bytes.now protected.0 c.limit (bindings_of c.atoms (tables_in work.old).bindings count)) }
 {
     let equations = usize::from(c.equations);

@@ -32,5 +32,5 @@ perform-requires c =
       takes = takes h c.resolved-left.ensures c.resolved-right.ensures c.decide-act.ensures;
     }
 
-pub returns : goal.returns
-returns c = rw (step_is c.requires c.resolved-left.ensures c.resolved-right.ensures c.decide-act.ensures) at c.perform.ensures
+pub returns-clause-performed : goal.returns-clause-performed
+returns-clause-performed c = rw (step_is c.requires c.resolved-left.ensures c.resolved-right.ensures c.decide-act.ensures) at c.perform.ensures.performed

@@ -13,4 +13,4 @@ start-requires c = (c.requires.ready.standing, c.from-equations.ensures ∙ all_
 pub go-requires : goal.go-requires
 go-requires c =
     let cleared = rw (c.from.ensures, c.from-2.ensures) at c.clear.ensures in
-    rw c.from-3.ensures (began c.requires.ready _ c.requires.founded cleared c.start.ensures)
+    rw c.from-3.ensures (began c.requires.ready _ c.requires.founded cleared c.start.ensures.started)
