@@ -7,6 +7,7 @@ ghost use Rattle.variables.specs.Variables.{VariablesKept};
 ghost use Rattle.sets.specs.Bits.{member};
 ghost use Rattle.bindings.specs.Bindings.{binding_tables, bindings_of};
 ghost use Rattle.machine.specs.Run.{Founded};
+ghost use Rattle.perform.specs.Performed.{SameTables};
 ghost use Rattle.verdicts.specs.Ends.{run_from, RunEnds};
 
 use ending::words::words;
@@ -31,7 +32,8 @@ pub fn run_read(
         × VariablesKept (problem_of input.now.bytes.now).nodes node_variables.now }
     requires founded { Founded (problem_of input.now.bytes.now)
         (binding_tables work.old.bindings.made.now work.old.bindings.values.now) count bound.0 }
-    ensures { RunEnds (problem_of input.now.bytes.now) (binding_tables work.new.bindings.made.now work.new.bindings.values.now)
+    ensures same { SameTables work.old work.new }
+    ensures ended { RunEnds (problem_of input.now.bytes.now) (binding_tables work.new.bindings.made.now work.new.bindings.values.now)
         work.new.demands.asked.now result (run_from (problem_of input.now.bytes.now) (member protected.0)
         (bindings_of (problem_of input.now.bytes.now).atoms
         (binding_tables work.old.bindings.made.now work.old.bindings.values.now) count)) }

@@ -27,7 +27,7 @@ pub returns-in-Ok : goal.returns-in-Ok
 returns-in-Ok c =
     let p : Problem = problem_of c.args.input.now.bytes.now in
     let run = judges p c.requires.0.standing.readable _ c.below-protected.ensures _ in
-    let (ended, ends) = c.in-Ok.ensures.accepted _ refl in
+    let (ended, ends) = c.in-Ok.ensures.ended.accepted _ refl in
     judged_finished p (sym ends ∙ run) (c.judged.ensures _ _ ended)
 
 pub returns-in-Err : goal.returns-in-Err
@@ -35,11 +35,11 @@ returns-in-Err c =
     let p : Problem = problem_of c.args.input.now.bytes.now in
     let run = judges p c.requires.0.standing.readable _ c.below-protected.ensures _ in
     let is_limit = same_true the_type (record {}) _ _ (sym c.eq.ensures ∙ c.if-eq.true) in
-    judged_limit p (judged_run p) (ap end_given (sym run) ∙ c.in-Err.ensures.refused _ refl) is_limit
+    judged_limit p (judged_run p) (ap end_given (sym run) ∙ c.in-Err.ensures.ended.refused _ refl) is_limit
 
 pub returns-in-Err-2 : goal.returns-in-Err-2
 returns-in-Err-2 c =
     let p : Problem = problem_of c.args.input.now.bytes.now in
     let run = judges p c.requires.0.standing.readable _ c.below-protected.ensures _ in
     let not_limit = same_false the_type _ _ (sym c.eq.ensures ∙ c.if-eq.false) in
-    rw c.refuse.ensures (judged_refused p (judged_run p) (ap end_given (sym run) ∙ c.in-Err.ensures.refused _ refl) not_limit)
+    rw c.refuse.ensures (judged_refused p (judged_run p) (ap end_given (sym run) ∙ c.in-Err.ensures.ended.refused _ refl) not_limit)
