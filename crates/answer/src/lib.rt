@@ -33,6 +33,8 @@ struct Writer<'a> {
 }
 
 // Where a number is cast to a smaller type below it is less than that type holds, as the contracts ask: `try_from` would bring a branch that is never taken.
+// `atoms` and `variables` are a usize though they are cast so: a u8 would ask more of who calls (write).
+// `same`: of a struct behind &mut it is not known that a field keeps its reference, so each method says it.
 impl<'a> Writer<'a> {
     fn put(&mut self, b: u8)
         requires { self.old.at < length self.old.output.now }
@@ -121,6 +123,7 @@ impl<'a> Writer<'a> {
         self.put_all(&[a.0, x.0]);
     }
 
+    // From the lowest atom on, as long as one is left: a set is no range, and sets has no iterator.
     fn facts_of(&mut self, atoms: AtomSet, x: Variable)
         requires { self.old.at + length (fact_bytes_of x.0 atoms.0) ≤ length self.old.output.now }
         ensures same { self.new.output.ghost_name ≡ self.old.output.ghost_name }

@@ -22,6 +22,7 @@ pub fn add_freshness(input: &Input, asked: &mut Asked, count: usize)
 }
 
 // ".. and 22": an atom fresh for a variable. The sets by variable are the reader's.
+// The cast: `variables` is at most 64, and a `try_from` would bring a branch that is never taken; to take a u8 would ask more of who calls.
 pub fn add_assumptions(assumed: &Assumed, asked: &mut Asked, variables: usize)
     requires { variables ≤ 64 }
     ensures { AssumptionsAdded variables assumed.now asked.old asked.new }

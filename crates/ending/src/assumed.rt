@@ -20,6 +20,7 @@ fn covers(bound: VariableSet, asked: &Asked, assumed: &Assumed, x: Variable) -> 
 }
 
 // Whether every fact is assumed: an atom that is asked of an unbound variable.
+// The cast: `variables` is at most 64, and a `try_from` would bring a branch that is never taken; to take a u8 would ask more of who calls.
 pub fn all_assumed(bound: VariableSet, asked: &Asked, assumed: &Assumed, variables: usize) -> bool
     requires { variables ≤ 64 }
     ensures { result ≡ covered variables bound.0 (asked_of_variables asked.now) assumed.now }

@@ -58,7 +58,8 @@ pub fn judge_with(input: &[u8], tables: &mut Tables) -> Judged
     )
 }
 
-// The solver.
+// The solver. The literal of the tables stands here and in `judge`: a struct that owns the ten, to be lent by one function, was tried, and a literal with an
+// array of arrays for a field is not covered by the borrow checker.
 pub fn solve(input: &[u8], output: &mut [u8]) -> Solved
     ensures { result_of result output.new ≡ run.solve input.now output.old }
 {
