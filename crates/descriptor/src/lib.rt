@@ -44,8 +44,8 @@ impl Answer {
         self.got.unwrap_or(0)
     }
 
-    // Why the call failed, as the system numbers it, and 0 where it did not. 0 and no Option: a write that took nothing failed with no error, and notice tells of
-    // it in the system's words for 0.
+    // Why the call failed, as the system numbers it, and 0 where it did not. 0 and no Option: a write that took nothing failed with no error, and notice
+    // tells of it in the system's words for 0.
     pub fn error(&self) -> i32
         ensures { result ≡ error_of self.now.got }
     {
@@ -117,8 +117,8 @@ fn number_of(error: io::Error) -> i32
 }
 
 // Reads once. A signal, or an input that has nothing yet, is no answer; after 2^64 such turns it is one. `write` goes over its calls likewise, and not by one
-// function that takes the call: of what a closure that is called again leaves in the reader or the writer that it borrows, a proof knows nothing. The clock goes
-// beside: a program lends one to its input, its output and its errors alike, so a value of a reader or writer and its clock would be three of them.
+// function that takes the call: of what a closure that is called again leaves in the reader or the writer that it borrows, a proof knows nothing. The clock
+// goes beside: a program lends one to its input, its output and its errors alike, so a value of a reader or writer and its clock would be three of them.
 pub fn read<R: Read, C: Clock>(reader: &mut R, clock: &C, buf: &mut [u8]) -> Answer
     ensures asked_value { result.asked ≡ length buf.new }
     ensures moved { Moved (length buf.new) result.got }

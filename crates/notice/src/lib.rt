@@ -15,8 +15,8 @@ use std::io;
 use std::io::Write;
 use std::time::Clock;
 
-// What there is to say of an answer: text means that a problem was refused which looks like hexadecimal text. Nothing is a word of the definition notice_of, which
-// has three.
+// What there is to say of an answer: text means that a problem was refused which looks like hexadecimal text. Nothing is a word of the definition notice_of,
+// which has three.
 #[derive(Clone, Copy, PartialEq, Eq)]
 pub enum Notice {
     Nothing,

@@ -17,8 +17,8 @@ pub struct Taken {
     last: Answer,
 }
 
-// Not all were taken: how many, and what the write after them answered, which failed or took nothing. Two types of one form: so Ending can hold a writing that was
-// not whole and no other.
+// Not all were taken: how many, and what the write after them answered, which failed or took nothing. Two types of one form: so Ending can hold a writing
+// that was not whole and no other.
 #[derive(Clone, Copy, PartialEq, Eq)]
 pub struct Unwritten {
     count: usize,
