@@ -39,7 +39,9 @@ returns-in-Same-clause-performed c =
 -- ---- a binding
 
 pub returns-in-BindLeft-clause-performed : goal.returns-in-BindLeft-clause-performed
-returns-in-BindLeft-clause-performed c = rw c.in-BindLeft.is (gone_bound (rw c.requires.number c.requires.standing.readable.few_atoms) c.bind.ensures.bound)
+returns-in-BindLeft-clause-performed c =
+    rw c.in-BindLeft.is (gone_bound (rw c.requires.number c.requires.standing.readable.few_atoms) c.bind.ensures.bound)
 
 pub returns-in-BindRight-clause-performed : goal.returns-in-BindRight-clause-performed
-returns-in-BindRight-clause-performed c = rw c.in-BindRight.is (gone_bound (rw c.requires.number c.requires.standing.readable.few_atoms) c.bind-in-BindRight.ensures.bound)
+returns-in-BindRight-clause-performed c =
+    rw c.in-BindRight.is (gone_bound (rw c.requires.number c.requires.standing.readable.few_atoms) c.bind-in-BindRight.ensures.bound)
