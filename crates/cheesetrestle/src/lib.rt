@@ -60,7 +60,7 @@ pub extern "C" fn cheesetrestle_solve_with<'a>(
         },
         marks,
     };
-    joined(numbers::solved(solver::entries::solve_with(input, output, &mut tables)))
+    joined(Given::from(solver::entries::solve_with(input, output, &mut tables)))
 }
 
 // The judge over lent work tables with any content.
@@ -91,7 +91,7 @@ pub extern "C" fn cheesetrestle_judge_with<'a>(
         },
         marks,
     };
-    joined(numbers::judged(solver::entries::judge_with(input, &mut tables)))
+    joined(Given::from(solver::entries::judge_with(input, &mut tables)))
 }
 
 // The solver, which makes its work tables itself.
@@ -101,7 +101,7 @@ pub extern "C" fn cheesetrestle_solve(input: &[u8], output: &mut [u8]) -> u64
         (run.solve input.now output.old).place }
     ensures output_after { output.new ≡ (run.solve input.now output.old).output }
 {
-    joined(numbers::solved(solver::entries::solve(input, output)))
+    joined(Given::from(solver::entries::solve(input, output)))
 }
 
 // The judge, which makes its work tables itself.
@@ -109,5 +109,5 @@ pub extern "C" fn cheesetrestle_solve(input: &[u8], output: &mut [u8]) -> u64
 pub extern "C" fn cheesetrestle_judge(input: &[u8]) -> u64
     ensures { result ≡ packed (run.judge input.now).0 (run.judge input.now).1 }
 {
-    joined(numbers::judged(solver::entries::judge(input)))
+    joined(Given::from(solver::entries::judge(input)))
 }

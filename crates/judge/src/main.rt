@@ -4,6 +4,7 @@
 ghost use Rattle.judge.specs.Serving.{judge_gives};
 
 use exchange::{Work, Worked};
+use numbers::Given;
 
 #[derive(Drop)]
 struct Judge;
@@ -14,7 +15,7 @@ impl Work for Judge {
     ghost gives = { λ _. judge_gives };
 
     fn work(&mut self, problem: &[u8], out: &mut [u8]) -> Worked {
-        let given = numbers::judged(solver::entries::judge(problem));
+        let given = Given::from(solver::entries::judge(problem));
         let end = printer::judge_line(out, 0, given);
         Worked { given, end }
     }

@@ -5,6 +5,7 @@ ghost use Rattle.std.specs.Prelude.{◌*◌, max, length};
 ghost use Rattle.solve.specs.Serving.{solver_gives};
 
 use exchange::{Work, Worked};
+use numbers::Given;
 
 // The output that the answer is written to.
 #[derive(Drop)]
@@ -19,7 +20,7 @@ impl<'a> Work for Solver<'a> {
 
     fn work(&mut self, problem: &[u8], out: &mut [u8]) -> Worked {
         let output = &mut *self.output;
-        let given = numbers::solved(solver::entries::solve(problem, output));
+        let given = Given::from(solver::entries::solve(problem, output));
         let end = printer::solver_lines(out, 0, given, output);
         Worked { given, end }
     }

@@ -9,6 +9,7 @@ ghost use Rattle.stream.specs.Turned.{taken_by, text_of, Turned};
 ghost use Rattle.stream.specs.Written.{Wrote};
 
 use frames::Stop;
+use numbers::Given;
 use solver::tables::{self, Bindings, Demands, Stack, Tables, Work};
 use standing::{Ending, Turn};
 use std::io::{Read, Write};
@@ -37,8 +38,8 @@ fn turn<R: Read, W: Write, C: Clock>(
 {
     let frame = frames::next(&mut ports.from, &ports.clock, input)?;
     let problem = &input[..frame.size];
-    let solved = numbers::solved(solver::entries::solve_with(problem, output, tables));
-    let judged = numbers::judged(solver::entries::judge_with(problem, tables));
+    let solved = Given::from(solver::entries::solve_with(problem, output, tables));
+    let judged = Given::from(solver::entries::judge_with(problem, tables));
     let end = block::lines(out, solved, output, judged);
     let taken = outlet::put(&mut ports.to, &ports.clock, &out[..end]);
     Ok(Turn { frame, taken })

@@ -4,4 +4,4 @@ use Rattle.cheesetrestle.proofs.cheesetrestle_solve.Goals as goal
 
 pub joined-requires : goal.joined-requires
 joined-requires c =
-    solved_fits c.args.input.now c.args.output.now _ c.solve.result c.solved.result c.solve.ensures c.solved.ensures (λ i. (c.type_inv.input i).fits)
+    solved_fits c.args.input.now c.args.output.now _ c.solve.result c.from.result c.solve.ensures c.from.ensures (λ i. (c.type_inv.input i).fits)

@@ -24,7 +24,7 @@ told {r} {d} {e} g j f x y m h =
 
 pub returns : goal.returns
 returns c =
-    let given = c.judged-given.result in
-    let small = c.judged-given.type_inv in
-    told given _ (ap (λ (g : Given). (g.number, g.place)) c.judged-given.ensures ∙ c.judge.ensures) (omega (arith, small)) (omega (arith, small)) c.requires
+    let given = c.from-given.result in
+    let small = c.from-given.type_inv in
+    told given _ (ap (λ (g : Given). (g.number, g.place)) c.from-given.ensures ∙ c.judge.ensures) (omega (arith, small)) (omega (arith, small)) c.requires
     c.judge_line-end.ensures

@@ -30,12 +30,12 @@ told {r} {o} {d} {e} g s f x y z l m h =
 
 pub returns : goal.returns
 returns c =
-    let given = c.solved-given.result in
-    let small = c.solved-given.type_inv in
+    let given = c.from-given.result in
+    let small = c.from-given.type_inv in
     told
     given
     _
-    (ap (λ (g : Given). result g c.solve.new.output) c.solved-given.ensures ∙ c.solve.ensures)
+    (ap (λ (g : Given). result g c.solve.new.output) c.from-given.ensures ∙ c.solve.ensures)
     (omega (arith, small))
     (omega (arith, small))
     (search rules)
