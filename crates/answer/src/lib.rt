@@ -151,7 +151,8 @@ impl<'a> Writer<'a> {
     }
 }
 
-// The atoms that are facts of the variable x.
+// The atoms that are facts of the variable x. Here and below asked, bound, atoms and variables go beside each other: write gets them so, and a struct of
+// them would be made there for two calls.
 fn fact_set(asked: &Asked, bound: VariableSet, x: Variable, atoms: usize) -> AtomSet
     requires { atoms ≤ 32 }
     ensures { result.0 ≡ fact_set atoms bound.0 (asked_of_variables asked.now) x.0 }
@@ -169,6 +170,7 @@ fn count_facts(asked: &Asked, bound: VariableSet, atoms: usize, variables: usize
     let mut n: usize = 0;
     for x in 0..variables {
         let facts = fact_set(asked, bound, Variable(x as u8), atoms);
+        // Of a u32 no From makes a usize.
         n += facts.0.count_ones() as usize;
     }
     n

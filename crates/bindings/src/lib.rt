@@ -46,6 +46,7 @@ pub struct Bindings<'a> {
     pub values: &'a mut Values,
 }
 
+// `same`: of a struct behind &mut it is not known that a field keeps its reference, so each method that changes what is lent says it.
 impl<'a> Bindings<'a> {
     // One more binding, after the k that were made: of a variable that is not bound. The set of bound variables comes back with it.
     #[tactic(auto, using(crate::proofs::Laws::keeps_room))]

@@ -49,6 +49,7 @@ pub extern "C" fn cheesetrestle_solve_with<'a>(
         (run.solve input.now output.old).place }
     ensures output_after { output.new ≡ (run.solve input.now output.old).output }
 {
+    // The literal stands here and in the judge's entry: a function of the ten tables that makes it would have ten parameters, too, and be no plainer.
     let mut tables = Tables {
         places,
         assumed,

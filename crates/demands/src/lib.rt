@@ -145,6 +145,7 @@ pub struct Demands<'a> {
     pub firsts: &'a mut Firsts,
 }
 
+// `same`: of a struct behind &mut it is not known that a field keeps its reference, so each method that changes what is lent says it.
 impl<'a> Demands<'a> {
     // "a is demanded fresh for t": of the side's node it is the atom that the side's images send to a.
     pub fn raise_side(&mut self, a: Atom, p: Permutation, atoms: usize, node: NodeId, number: u8)

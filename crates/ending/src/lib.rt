@@ -24,6 +24,7 @@ use problem::{Assumed, Counts, Input};
 use sets::VariableSet;
 
 // The demands in the tables and those of the file's freshness fields. Answers whether they fail; the atoms asked of each variable are left in the table.
+// bindings and asked come one by one and not as a Work with both: that is perform's, and no part of what this crate may know.
 fn resolve(
     input: &Input,
     c: Counts,

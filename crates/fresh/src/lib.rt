@@ -50,7 +50,8 @@ fn through_images(bindings: &Bindings, n: usize, x: Variable, atoms: AtomSet) ->
     r
 }
 
-// The atoms that were asked of a variable and not yet passed on; those that were are a word, as their table's type says.
+// The atoms that were asked of a variable and not yet passed on; those that were are a word, as their table's type says. Here and below bound, asked and
+// marks go beside each other: close changes two of them at each turn, so a struct of the three would be made anew at each.
 #[tactic(auto, unfolding(crate::specs::Marks::new_at))]
 fn new_at(asked: &Asked, marks: &Marks, x: Variable) -> AtomSet
     requires { x.0 < 64 }

@@ -32,7 +32,8 @@ pub struct Work<'a> {
     pub demands: Demands<'a>,
 }
 
-// How far the run is: how many equations wait, which variables are bound, and how many.
+// How far the run is: how many equations wait, which variables are bound, and how many. By value from step to step, and no part of Work: a step that
+// refuses gives none back.
 #[derive(Clone, Copy, PartialEq, Eq)]
 pub struct State {
     pub waiting: usize,

@@ -32,7 +32,8 @@ pub const EMPTY_PLACES: Places = [0; FIELDS];
 // An input that was read: its bytes, and the table that says what stands where. Everything after the reader looks at the two together (`look`).
 // Not compared: two inputs would be the same where their bytes lie in one place, and that is not what == asks.
 // Standing is no part of the type: form_of, bare, swaps_of, equation_at, freshness_at, which docs/PROVED.md names, ask for one node or field alone.
-// A type that says it of all would ask more of who calls them. Nor are the counts: most who look at an input want the atoms alone, or none of them.
+// A type that says it of all would ask more of who calls them. A type of its own was tried: Standing has more than one proof, as a field can stand in two
+// places alike, and a ghost field takes a fact that has one. An input with its atoms as one value would add a word to each path in thirty contracts.
 #[derive(Clone, Copy)]
 pub struct Input<'a> {
     pub bytes: &'a [u8],

@@ -29,7 +29,7 @@ use variables::NodeVariables;
 // The longest input that is read.
 const MOST_BYTES: usize = 65535;
 
-// Each of these keeps what the field says and gives its size, if it has no fault.
+// Each of these keeps what the field says and gives its size, if it has no fault: a function for each row of document 01's table, as in says.
 fn equation(w: u64, c: Counts, places: &mut Places) -> Option<usize>
     ensures { Kept (equation_good (sized_by c) w) 7 (512 + c.equations) w result places.old places.new }
 {
@@ -166,7 +166,7 @@ fn refusal(rest: &Rest, c: Counts) -> Option<Refusal>
     }
 }
 
-// The fields after the head, in an input that is not too long.
+// The fields after the head, in an input that is not too long. The tables stay beside the bytes, as at read. It moves on by what nodes and other took.
 fn fields(
     s: &[u8],
     head: Counts,

@@ -44,7 +44,7 @@ fn put(
     variables::put(node_variables, usize::from(n), variables);
 }
 
-// Each of these puts node n down and gives the size of its field, if the field has no fault.
+// Each of these puts node n down and gives the size of its field, if the field has no fault: a function for each row of document 01's table, as in says.
 fn unit(w: u64, n: u16, places: &mut Places, node_variables: &mut NodeVariables) -> Option<usize>
     requires { n < 512 }
     ensures { Kept (unit_good w) 3 n w result places.old places.new
@@ -253,7 +253,8 @@ fn node_here(
     node(rest, c, places, node_variables)
 }
 
-// The slice from each field's end is passed on to the reading of its first bytes.
+// The slice from each field's end is passed on to the reading of its first bytes. It moves on by each field's size, up to the first that is no node, so
+// no range goes over it. The two tables stay beside each other, as at put.
 pub fn nodes<'a>(
     s: &'a [u8],
     from: usize,

@@ -9,7 +9,7 @@ use problem::Input;
 use verdicts::judging::judge_read;
 use verdicts::solving::solve_read;
 
-// The solver, over lent work tables with any content.
+// The solver, over lent work tables with any content. The judge reads alike: a function for that would be lent three tables to save a literal alone.
 pub fn solve_with(input: &[u8], output: &mut [u8], tables: &mut Tables) -> Solved
     ensures { result_of result output.new ≡ run.solve input.now output.old }
 {

@@ -19,7 +19,7 @@ use problem::Input;
 use rows::Row;
 use sets::AtomSet;
 
-// So many equations can wait.
+// So many equations can wait. That a place is below it each method asks for itself: a type of places would be taken apart to index.
 pub const ROOM: usize = 576;
 
 // Of each equation its number and the nodes of its two sides, and the images of the two sides.
@@ -57,6 +57,7 @@ pub struct Stack<'a> {
     pub images: &'a mut Images,
 }
 
+// `same`: of a struct behind &mut it is not known that a field keeps its reference, so each method that changes what is lent says it.
 impl<'a> Stack<'a> {
     // One more equation, above the n that wait. Each row is written where it belongs: a pair that is made first and then copied costs a chain of 512
     // nodes 3% more instructions.
@@ -119,7 +120,7 @@ impl<'a> Stack<'a> {
         }
     }
 
-    // What waits at place n, and the images of its sides: read where they lie.
+    // What waits at place n, and the images of its sides: read where they lie. The number is a byte, as at top.
     pub fn nodes_at(&self, n: usize) -> Nodes
         requires { n < most_waiting }
         ensures { result ≡ nodes_at self.now.heads.now n }

@@ -84,6 +84,7 @@ fn main(rt: HostRuntime) {
         clock: rt,
     };
     let mut errors = rt.stderr();
+    // The literal of the tables stands here, too: no function hands out what lies in its frame, and a struct that owns them was tried (solver::entries).
     let mut tables = Tables {
         places: &mut tables::EMPTY_PLACES,
         assumed: &mut tables::EMPTY_ASSUMED,
