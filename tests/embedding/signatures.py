@@ -66,7 +66,7 @@ class Parameter:
     """A parameter of an exported function of the crate: a slice, or a table, which is an array with its lengths."""
 
     def __init__(self, words):
-        match = found(r"^(\w+): &(mut )?(?:\[(u\d+)\]|(\w+))$", words, "the type in '%s'" % words)
+        match = found(r"^(\w+): &(?:'\w+ )?(mut )?(?:\[(u\d+)\]|(\w+))$", words, "the type in '%s'" % words)
         self.name, self.lent_for_writing = match.group(1), bool(match.group(2))
         self.element, self.lengths = laid_out(match.group(3) or match.group(4))
 
@@ -85,7 +85,7 @@ class Parameter:
 
 class Entry:
     def __init__(self, name, crate):
-        match = found(r"#\[unsafe\(no_mangle\)\]\npub extern \"C\" fn %s\((.*?)\) -> (u\d+)" % name, crate, "the export " + name)
+        match = found(r"#\[unsafe\(no_mangle\)\]\npub extern \"C\" fn %s(?:<'\w+>)?\((.*?)\) -> (u\d+)" % name, crate, "the export " + name)
         words = [word.strip() for word in re.split(r",\s*(?![^\[]*\])", match.group(1)) if word.strip()]
         self.name = name
         self.result = WIDTHS[match.group(2)][0]
@@ -147,7 +147,10 @@ def compare_tables(comparison, header, tables):
 def compare_numbers(comparison):
     """The enum's names and numbers against those of the crate `numbers`."""
     crate = text_of("crates/numbers/src/lib.rt")
-    expected = {"CHEESETRESTLE_" + name: int(number) for name, number in re.findall(r"pub const (\w+): u8 = (\d+);", crate)}
+    reasons = re.findall(r"Reason::(\w+) => (\d+),", crate)
+    expected = {"CHEESETRESTLE_" + re.sub(r"(?<!^)(?=[A-Z])", "_", name).upper(): int(number) for name, number in reasons}
+    none = int(found(r"Given \{ number: (\d+), place \}", crate, "the number of no refusal").group(1))
+    expected.update(CHEESETRESTLE_ACCEPTED=none, CHEESETRESTLE_HOLDS=none)
     header = plain(text_of("include/cheesetrestle_numbers.h"))
     actual = {name: int(number) for name, number in re.findall(r"(CHEESETRESTLE_\w+) = (\d+)", header)}
     actual.pop("CHEESETRESTLE_NO_ROOM", None)

@@ -7,10 +7,12 @@ use mathlib.Core.List.{List, [], ◌∷◌, ◌++◌, map}
 use lib.ListN.{length, take, drop, length-map, length-append, drop_of_length-le}
 use borrow.Author.Tests.{le-leb, lt-leb}
 use Rattle.bindings.specs.Bindings.{Bindings, order_in, variable_at, binding_at, bindings_of, Keeps}
-use Rattle.bindings.proofs.Bindings.{keeps_few, length_images_of, length_bindings_of, bindings_of_at}
+use Rattle.bindings.proofs.Laws.{keeps_few, length_images_of, length_bindings_of, bindings_of_at}
 use Rattle.run.specs.Meaning.{Fact}
 use Rattle.run.specs.Answer.{binding_bytes, fact_bytes, answer_bytes, written}
-use Rattle.numbers.specs.declared.Given.{Given}
+use Rattle.std.specs.Prelude.{Ok, Err}
+use Rattle.numbers.specs.declared.Refusal.{Refusal}
+use Rattle.numbers.specs.declared.Reason.TheVariants.{TooShort}
 use Rattle.numbers.specs.Numbers.{result_of}
 use Rattle.answer.specs.Written.{Wrote}
 use Rattle.answer.specs.Fields.{steps_field, binding_field}
@@ -68,11 +70,11 @@ module _ (A : ℕ) (t : Bindings) (k bound : ℕ) (h : Keeps t.made k bound) whe
 
 -- ---- what is given back
 
-pub given_written : (g : Given) (answer d e : List ℕ) (r : ℕ) → g.number ≡ 0 → g.place ≡ length answer → Wrote d 0 answer r e
-    → length answer ≤ length d → result_of g e ≡ written answer d
+pub written_whole : (answer d e : List ℕ) (r : ℕ) → Wrote d 0 answer r e → length answer ≤ length d → result_of (Ok r) e ≡ written answer d
 unfolding written
-given_written g answer d e r n p w h = rw (le-leb (length answer) (length d) h, n, p, wrote_all w h)
+written_whole answer d e r w h = let n : r ≡ length answer = omega (arith, w.ends) in rw (le-leb (length answer) (length d) h, n, wrote_all w h)
 
-pub given_short : (g : Given) (answer d : List ℕ) → g.number ≡ 13 → g.place ≡ length answer → length d < length answer → result_of g d ≡ written answer d
+pub written_short : (answer d : List ℕ) (n : ℕ) {r : Refusal} → r ≡ record { reason = TooShort; place = n } → n ≡ length answer
+    → length d < length answer → result_of (Err r) d ≡ written answer d
 unfolding written
-given_short g answer d n p h = rw (lt-leb (length answer) (length d) h, n, p)
+written_short answer d n e p h = rw (lt-leb (length answer) (length d) h, e, p)

@@ -1,9 +1,11 @@
 -- The laws of an answer's fields: the definition's answer is made of them, how long each is, and the parts in which the code writes each.
-use Prim.Native.Nat.{ℕ, ◌+◌, ◌/◌, ◌%◌, ◌<◌}
+use Prim.Native.Nat.{ℕ, ◌+◌, ◌/◌, ◌%◌}
 use native.Mathlib.Omega.{arith}
-use mathlib.Core.Path.{◌≡◌, refl, ap, ap₂}
+use mathlib.Core.Path.{◌≡◌, refl, ap}
 use mathlib.Core.List.{List, [], ◌∷◌, ◌++◌}
+use mir.Syntax.{w16, w32}
 use lib.ListN.{length}
+use Rattle.std.specs.Int.{to_be_bytes}
 use Rattle.field.specs.Field.{bytes2, bytes4, field_bytes}
 use Rattle.run.specs.Meaning.{Binding, Fact}
 use Rattle.run.specs.Answer.{binding_bytes, fact_bytes, answer_bytes}
@@ -51,20 +53,18 @@ length_fact_field f = refl
 
 -- ---- the parts in which a field is written
 
-pub two_parts : (n : ℕ) → n < 65536 → n / 256 ∷ n % 256 ∷ [] ≡ bytes2 n
+pub two_bytes : (n : ℕ) → to_be_bytes w16 n ≡ bytes2 n
 unfolding bytes2
-two_parts n h = let high : n / 256 ≡ n / 256 % 256 = omega arith in ap (λ (x : ℕ). x ∷ n % 256 ∷ []) high
+two_bytes n = refl
 
-low_bytes : (n : ℕ) → bytes2 (n % 65536) ≡ bytes2 n
-unfolding bytes2
-low_bytes n =
-    let high : n % 65536 / 256 % 256 ≡ n / 256 % 256 = omega arith in
-    let low : n % 65536 % 256 ≡ n % 256 = omega arith in
-    ap₂ (λ (x y : ℕ). x ∷ y ∷ []) high low
+pub four_bytes : (n : ℕ) → to_be_bytes w32 n ≡ bytes4 n
+unfolding bytes4 bytes2
+four_bytes n =
+    let high : n / 16777216 % 256 ≡ n / 65536 / 256 % 256 = omega arith in ap (λ (x : ℕ). x ∷ n / 65536 % 256 ∷ n / 256 % 256 ∷ n % 256 ∷ []) high
 
-pub steps_parts : (n : ℕ) → (0x4E ∷ bytes2 4) ++ bytes2 (n / 65536) ++ bytes2 (n % 65536) ≡ steps_field n
+pub steps_parts : (n : ℕ) → (0x4E ∷ bytes2 4) ++ bytes4 n ≡ steps_field n
 unfolding steps_field field_bytes bytes4 bytes2
-steps_parts n = ap (λ (l : List ℕ). (0x4E ∷ bytes2 4) ++ bytes2 (n / 65536) ++ l) (low_bytes n)
+steps_parts n = refl
 
 pub binding_parts : (b : Binding) (n : ℕ) → length b.value.images ≡ n
     → (0x40 ∷ bytes2 (3 + n)) ++ (b.variable ∷ []) ++ bytes2 b.value.node ++ b.value.images ≡ binding_field b
@@ -74,6 +74,6 @@ binding_parts b n l =
     let long : 3 + n ≡ length body = omega arith in
     ap (λ (k : ℕ). (0x40 ∷ bytes2 k) ++ body) long
 
-pub fact_parts : (f : Fact) → (0x41 ∷ bytes2 2) ++ (f.0 ∷ []) ++ (f.1 ∷ []) ≡ fact_field f
+pub fact_parts : (f : Fact) → (0x41 ∷ bytes2 2) ++ (f.0 ∷ f.1 ∷ []) ≡ fact_field f
 unfolding fact_field field_bytes bytes2
 fact_parts f = refl

@@ -4,8 +4,10 @@ use native.Mathlib.Nat.{add-zero, zero-add}
 use native.Mathlib.Omega.{arith}
 use mathlib.Core.Path.{◌≡◌, refl, sym, ◌∙◌, ap}
 use mathlib.Core.List.{List, [], ◌∷◌, ◌++◌}
-use lib.ListN.{length, drop, set, length-append}
-use lib.Seq.{sets, length-sets, sets-eq}
+use borrow.Rule.Slice.PartMut.{put_mid}
+use lib.ListN.{length, take, drop, set, length-append}
+use lib.Seq.{sets, length-sets, sets-eq, take-length}
+use Rattle.std.proofs.lemmas.Slice.{put_mid-paste}
 use Rattle.answer.specs.Written.{Wrote}
 
 sets_append : (s t d : List ℕ) (at : ℕ) → sets d at (s ++ t) ≡ sets (sets d at s) (at + length s) t
@@ -19,6 +21,17 @@ wrote_length {d} {e} {s} {at} w = ap length w.holds ∙ length-sets d at s
 
 pub wrote_same : {d e s t : List ℕ} {at r : ℕ} → s ≡ t → Wrote d at s r e → Wrote d at t r e
 wrote_same p w = rw p at w
+
+-- A text in one piece.
+pub wrote_piece : (d s m : List ℕ) (at j : ℕ) → at + length s ≤ length d → m ≡ s → j ≡ length s → Wrote d at s (at + length s) (put_mid at j d m)
+wrote_piece d s m at j h e f =
+    record {
+      ends = refl;
+      holds =
+          put_mid-paste at j d m s (length s) e (sym f) refl
+          ∙ ap (λ (l : List ℕ). take at d ++ l ++ drop (at + length s) d) (take-length s)
+          ∙ sym (sets-eq s d at h);
+    }
 
 -- One text right after another.
 infixl 5 ◌then◌

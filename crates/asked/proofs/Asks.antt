@@ -27,7 +27,7 @@ use Rattle.fresh.specs.Resolved.{AskedAs, Asks}
 use Rattle.fresh.specs.Marks.{Demanded, atom_of}
 use Rattle.fresh.proofs.Asked.{asked_node, asked_variable, asked_side, asks_append, asks_same, asks_map}
 use Rattle.demands.specs.Demands.{Sheet, asked_of_nodes, asked_of_variables, atoms_at, is_of_node, is_of_variable, first_raised, PlaceTells, Raised}
-use Rattle.demands.proofs.Demands.{inverted_lt}
+use Rattle.demands.proofs.Laws.{inverted_lt}
 use Rattle.asked.specs.Added.{asks_fresh, FreshnessAdded, AssumptionsAdded, Words}
 
 -- ---- tests and what they find

@@ -8,31 +8,27 @@ ghost use Rattle.asked.specs.Added.{FreshnessAdded, AssumptionsAdded};
 
 use demands::Asked;
 use names::Variable;
-use problem::{Assumed, Places, look};
+use problem::{Assumed, Input, look};
 
 // "the demands of tags 21": an atom fresh for a node itself.
-pub fn add_freshness(s: &[u8], places: &Places, asked: &mut Asked, count: usize)
-    requires { Standing s.now places.now × (count ≡ length (problem_of s.now).freshness) }
-    ensures { FreshnessAdded (problem_of s.now).freshness asked.old asked.new }
+pub fn add_freshness(input: &Input, asked: &mut Asked, count: usize)
+    requires { Standing input.now.bytes.now input.now.places.now × (count ≡ length (problem_of input.now.bytes.now).freshness) }
+    ensures { FreshnessAdded (problem_of input.now.bytes.now).freshness asked.old asked.new }
 {
-    let mut k: usize = 0;
-    while k < count {
-        let d = look::freshness_at(s, places, k);
+    for k in 0..count {
+        let d = input.freshness_at(k);
         demands::ask_of_node(asked, d.node, d.atom);
-        k += 1;
     }
 }
 
 // ".. and 22": an atom fresh for a variable. The sets by variable are the reader's.
+// The cast: `variables` is at most 64, and a `try_from` would bring a branch that is never taken; to take a u8 would ask more of who calls.
 pub fn add_assumptions(assumed: &Assumed, asked: &mut Asked, variables: usize)
     requires { variables ≤ 64 }
     ensures { AssumptionsAdded variables assumed.now asked.old asked.new }
 {
-    let mut i: usize = 0;
-    while i < variables {
+    for i in 0..variables {
         let x = Variable(i as u8);
-        let atoms = look::assumed_for(assumed, x);
-        demands::ask_of_variable(asked, x, atoms);
-        i += 1;
+        demands::ask_of_variable(asked, x, look::assumed_for(assumed, x));
     }
 }

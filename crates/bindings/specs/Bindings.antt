@@ -1,14 +1,13 @@
 -- The bindings in tables: what the definition's bindings (run, specs/Meaning.antt) are read off them. Definitions alone; their laws are in proofs/.
-use Rattle.std.specs.Prelude.{ℕ, ◌+◌, ◌^◌, ◌≤◌, ◌<◌, ◌≡◌, true, false, cond, List, [], ◌∷◌, ◌++◌, map, length, get_or, take, set}
-use Rattle.std.proofs.Math.Option.{Option, none, some}
-use Rattle.permutation.specs.Store.{table, of_table}
+use Rattle.std.specs.Prelude.{ℕ, ◌+◌, ◌^◌, ◌≤◌, ◌<◌, ◌≡◌, true, cond, List, [], ◌∷◌, ◌++◌, map, length, get_or, take, set, Option, Some, None}
+use Rattle.std.proofs.Math.Option.{Option as Maybe, none, some}
+use Rattle.permutation.specs.Store.{table}
 use Rattle.permutation.specs.Table.{Table, image, tabulate}
 use Rattle.sets.specs.Bits.{member, inserted, count, among}
 use Rattle.rows.specs.Rows.{images_in, row_kept, row_held}
 use Rattle.run.specs.Meaning.{Side, Binding}
 use Rattle.run.specs.Run.{value_of}
 use Rattle.bindings.specs.declared.Value.{Value}
-use Rattle.bindings.specs.declared.Found.{Found}
 
 -- Three columns: the variables in the order in which they were bound; by variable its value's node; by variable the equation.
 unfoldable pub order_in : List (List ℕ) → List ℕ
@@ -74,16 +73,16 @@ pub record Added (before : Bindings) (k bound X : ℕ) (v : Value) (number : ℕ
   pub keeps : Keeps after.made (k + 1) r
 
 -- What the code makes of the variable X: rows are read whole, however many atoms are in use.
-unfoldable pub found_at : Bindings → ℕ → ℕ → Found
+unfoldable pub found_at : Bindings → ℕ → ℕ → Option Value
 found_at t bound X =
-    cond (member bound X) (record { bound = true; value = record { images = row_held (get_or t.values X []); node = record { 0 = node_of t.made X } } })
-    (record { bound = false; value = record { images = of_table []; node = record { 0 = 0 } } })
+    cond (member bound X) (Some (record { images = row_held (get_or t.values X []); node = record { 0 = node_of t.made X } })) None
 
-unfoldable pub value_in : ℕ → Found → Option Side
-value_in A f = cond f.bound (some (side_of A f.value)) none
+unfoldable pub value_in : ℕ → Option Value → Maybe Side
+value_in A None = none
+value_in A (Some v) = some (side_of A v)
 
 -- What looking a variable up gives: the definition's value, if the set of bound variables belongs to the order.
-pub record LookedUp (t : Bindings) (bound X : ℕ) (r : Found) : Type 0 where
+pub record LookedUp (t : Bindings) (bound X : ℕ) (r : Option Value) : Type 0 where
   pub content : r ≡ found_at t bound X
   pub value : (A : ℕ) → A ≤ 32 → (k : ℕ) → Keeps t.made k bound → value_of (bindings_of A t k) X ≡ value_in A r
 

@@ -6,16 +6,18 @@ ghost use Rattle.std.specs.Prelude.{◌≡◌, ◌≤◌};
 ghost use Rattle.run.specs.Answer as run;
 ghost use Rattle.numbers.specs.Numbers.{packed};
 
+use numbers::Given;
 use solver::tables::{
-    Asked, Assumed, Firsts, Heads, Images, Made, Marks, NodeVariables, Places, Values,
+    Asked, Assumed, Bindings, Demands, Firsts, Heads, Images, Made, Marks, NodeVariables, Places,
+    Stack, Tables, Values, Work,
 };
 
-// Number and place in one word.
-fn joined(number: u8, place: usize) -> u64
-    requires { place ≤ 65535 }
-    ensures { result ≡ packed number place }
+// Number and place in one word. Of a usize no From makes a u64.
+fn joined(given: Given) -> u64
+    requires { given.place ≤ 65535 }
+    ensures { result ≡ packed given.number given.place }
 {
-    (number as u64) * 4294967296 + (place as u64)
+    u64::from(given.number) * 4294967296 + given.place as u64
 }
 
 // The archive's version in one number: 10000 times the major, 100 times the minor and the patch number. The header has the same, so that a caller can see
@@ -29,72 +31,68 @@ pub extern "C" fn cheesetrestle_version() -> u32
 
 // The solver over lent work tables with any content.
 #[unsafe(no_mangle)]
-pub extern "C" fn cheesetrestle_solve_with(
+pub extern "C" fn cheesetrestle_solve_with<'a>(
     input: &[u8],
     output: &mut [u8],
-    places: &mut Places,
-    assumed: &mut Assumed,
-    node_variables: &mut NodeVariables,
-    heads: &mut Heads,
-    images: &mut Images,
-    made: &mut Made,
-    values: &mut Values,
-    asked: &mut Asked,
-    firsts: &mut Firsts,
-    marks: &mut Marks,
+    places: &'a mut Places,
+    assumed: &'a mut Assumed,
+    node_variables: &'a mut NodeVariables,
+    heads: &'a mut Heads,
+    images: &'a mut Images,
+    made: &'a mut Made,
+    values: &'a mut Values,
+    asked: &'a mut Asked,
+    firsts: &'a mut Firsts,
+    marks: &'a mut Marks,
 ) -> u64
     ensures value { result ≡ packed (run.solve input.now output.old).number
         (run.solve input.now output.old).place }
     ensures output_after { output.new ≡ (run.solve input.now output.old).output }
 {
-    let given = solver::entries::solve_with(
-        input,
-        output,
+    // The literal stands here and in the judge's entry: a function of the ten tables that makes it would have ten parameters, too, and be no plainer.
+    let mut tables = Tables {
         places,
         assumed,
         node_variables,
-        heads,
-        images,
-        made,
-        values,
-        asked,
-        firsts,
+        work: Work {
+            stack: Stack { heads, images },
+            bindings: Bindings { made, values },
+            demands: Demands { asked, firsts },
+        },
         marks,
-    );
-    joined(given.number, given.place)
+    };
+    joined(Given::from(solver::entries::solve_with(input, output, &mut tables)))
 }
 
 // The judge over lent work tables with any content.
 #[unsafe(no_mangle)]
-pub extern "C" fn cheesetrestle_judge_with(
+pub extern "C" fn cheesetrestle_judge_with<'a>(
     input: &[u8],
-    places: &mut Places,
-    assumed: &mut Assumed,
-    node_variables: &mut NodeVariables,
-    heads: &mut Heads,
-    images: &mut Images,
-    made: &mut Made,
-    values: &mut Values,
-    asked: &mut Asked,
-    firsts: &mut Firsts,
-    marks: &mut Marks,
+    places: &'a mut Places,
+    assumed: &'a mut Assumed,
+    node_variables: &'a mut NodeVariables,
+    heads: &'a mut Heads,
+    images: &'a mut Images,
+    made: &'a mut Made,
+    values: &'a mut Values,
+    asked: &'a mut Asked,
+    firsts: &'a mut Firsts,
+    marks: &'a mut Marks,
 ) -> u64
     ensures { result ≡ packed (run.judge input.now).0 (run.judge input.now).1 }
 {
-    let given = solver::entries::judge_with(
-        input,
+    let mut tables = Tables {
         places,
         assumed,
         node_variables,
-        heads,
-        images,
-        made,
-        values,
-        asked,
-        firsts,
+        work: Work {
+            stack: Stack { heads, images },
+            bindings: Bindings { made, values },
+            demands: Demands { asked, firsts },
+        },
         marks,
-    );
-    joined(given.number, given.place)
+    };
+    joined(Given::from(solver::entries::judge_with(input, &mut tables)))
 }
 
 // The solver, which makes its work tables itself.
@@ -104,8 +102,7 @@ pub extern "C" fn cheesetrestle_solve(input: &[u8], output: &mut [u8]) -> u64
         (run.solve input.now output.old).place }
     ensures output_after { output.new ≡ (run.solve input.now output.old).output }
 {
-    let given = solver::entries::solve(input, output);
-    joined(given.number, given.place)
+    joined(Given::from(solver::entries::solve(input, output)))
 }
 
 // The judge, which makes its work tables itself.
@@ -113,6 +110,5 @@ pub extern "C" fn cheesetrestle_solve(input: &[u8], output: &mut [u8]) -> u64
 pub extern "C" fn cheesetrestle_judge(input: &[u8]) -> u64
     ensures { result ≡ packed (run.judge input.now).0 (run.judge input.now).1 }
 {
-    let given = solver::entries::judge(input);
-    joined(given.number, given.place)
+    joined(Given::from(solver::entries::judge(input)))
 }

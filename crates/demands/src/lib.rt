@@ -3,22 +3,22 @@
 // table of numbers is never cleared.
 #![tactic(auto)]
 
-ghost use Rattle.std.specs.Prelude.{◌≡◌, false, ℕ, ◌≤◌, ◌<◌, length, get_or, set};
-ghost use Rattle.permutation.specs.Table.{image, inverted};
+ghost use Rattle.std.specs.Prelude.{◌≡◌, false, ℕ, ◌≤◌, ◌<◌, length, get_or};
 ghost use Rattle.permutation.specs.Store.{table};
 ghost use Rattle.sets.specs.Bits.{member, members};
-ghost use Rattle.demands.specs.Demands.{line, line_marked, line_marked_all, sheet, row_of, RowThere, marked, marked_all, emptied, demands_cleared};
-ghost use Rattle.demands.specs.Demands.{asked_of_node, asked_of_variable, with_set, SetThere, NodeAsked, VariableAsked};
+ghost use Rattle.demands.specs.Demands.{line, line_marked, line_marked_all, sheet, emptied, demands_cleared};
+ghost use Rattle.demands.specs.Demands.{asked_of_node, asked_of_variable, NodeAsked, VariableAsked};
 ghost use Rattle.demands.specs.Demands.{NodeRaised, SideRaised, VariableRaised};
 
 use names::{Atom, MOST_ATOMS, MOST_NODES, MOST_VARIABLES, NodeId, Variable};
 use permutation::Permutation;
-use sets::AtomSet;
+use sets::{AtomSet, Set};
 
 // By node, or by variable, the atoms that must be fresh for it.
 pub type Sets = [u32; MOST_NODES];
 
 // Two columns: the sets by node, and those by variable.
+// Columns and not a table of structs: include/cheesetrestle.h has this form (C interface), and lent memory has no other, as there is no heap.
 pub type Asked = [Sets; 2];
 
 pub const EMPTY_ASKED: Asked = [[0; MOST_NODES]; 2];
@@ -38,15 +38,13 @@ pub const NODES: usize = 0;
 
 pub const VARIABLES: usize = 1;
 
+// n beside the sets: lent as a part by clear, the loan within a loan met no clause of fill's.
+#[tactic(auto, unfolding(crate::specs::Demands::emptied))]
 fn empty_rows(sets: &mut [u32], n: usize)
     requires { n ≤ length sets.old }
     ensures { sets.new ≡ emptied n sets.old }
 {
-    let mut i: usize = 0;
-    while i < n {
-        sets[i] = 0;
-        i += 1;
-    }
+    sets[..n].fill(0);
 }
 
 // Nothing is demanded yet, of so many nodes and variables.
@@ -58,30 +56,29 @@ pub fn clear(asked: &mut Asked, nodes: usize, variables: usize)
     empty_rows(&mut asked[VARIABLES], variables);
 }
 
-// The atoms asked of a node, and of a variable.
+// The atoms asked of a node, and of a variable. One for each kind of name: a trait of the two would have the column and the index for members, and be
+// no plainer.
 pub fn of_node(asked: &Asked, n: NodeId) -> AtomSet
     requires { n.0 < 512 }
     ensures { result.0 ≡ asked_of_node asked.now n.0 }
 {
-    AtomSet(asked[NODES][n.0 as usize])
+    Set(asked[NODES][usize::from(n.0)])
 }
 
 pub fn of_variable(asked: &Asked, x: Variable) -> AtomSet
     ensures { result.0 ≡ asked_of_variable asked.now x.0 }
 {
-    AtomSet(asked[VARIABLES][x.0 as usize])
+    Set(asked[VARIABLES][usize::from(x.0)])
 }
 
-// Whether one of the first n sets has an atom. They are joined with no test between them, so that many are taken at once.
+// Whether one of the first n sets has an atom. They are joined with no test between them, so that many are taken at once. n beside, as above.
 pub fn any(sets: &[u32], n: usize) -> bool
     requires { n ≤ length sets.now }
     ensures { result ≡ false → (i : ℕ) → i < n → (a : ℕ) → member (get_or sets.now i 0) a ≡ false }
 {
     let mut all = AtomSet::empty();
-    let mut i: usize = 0;
-    while i < n {
-        all = all.union(AtomSet(sets[i]));
-        i += 1;
+    for atoms in &sets[..n] {
+        all = all.union(Set(*atoms));
     }
     !all.is_empty()
 }
@@ -94,36 +91,23 @@ pub fn any_of_nodes(asked: &Asked, n: usize) -> bool
     any(&asked[NODES], n)
 }
 
-fn put(sets: &mut [u32], i: usize, atoms: AtomSet)
-    requires { i < length sets.old }
-    ensures { sets.new ≡ set sets.old i atoms.0 }
-{
-    sets[i] = atoms.0;
-}
-
-// The table comes as a slice and its column is lent on as one: so both lengths are known here, and those who call are told that the row is there.
-fn put_in(asked: &mut [Sets], column: usize, i: usize, atoms: AtomSet)
-    requires { (column < length asked.old) × (i < 512) }
-    ensures there { SetThere column i asked.old }
-    ensures content { asked.new ≡ with_set column i atoms.0 asked.old }
-{
-    put(&mut asked[column], i, atoms);
-}
-
-// One atom more is asked of a node, which no equation demanded; and a set of atoms of a variable.
+// One atom more is asked of a node, which no equation demanded; and a set of atoms of a variable. The column that is written is taken as a slice: so its
+// length is known, which an array behind a reference does not tell.
 pub fn ask_of_node(asked: &mut Asked, n: NodeId, a: Atom)
     requires { (n.0 < 512) × (a.0 < 32) }
     ensures { NodeAsked n.0 a.0 asked.old asked.new }
 {
     let atoms = of_node(asked, n).with(a);
-    put_in(asked, NODES, n.0 as usize, atoms);
+    let sets: &mut [u32] = &mut asked[NODES];
+    sets[usize::from(n.0)] = atoms.0;
 }
 
 pub fn ask_of_variable(asked: &mut Asked, x: Variable, more: AtomSet)
     ensures { VariableAsked x.0 more.0 asked.old asked.new }
 {
     let atoms = of_variable(asked, x).union(more);
-    put_in(asked, VARIABLES, x.0 as usize, atoms);
+    let sets: &mut [u32] = &mut asked[VARIABLES];
+    sets[usize::from(x.0)] = atoms.0;
 }
 
 // Equation `number` asks for an atom in row i. Only the first equation that asks is kept: in the row's own numbers, beside the sets of its column.
@@ -132,111 +116,77 @@ fn mark(sets: &mut [u32], numbers: &mut [u8], i: usize, a: Atom, number: u8)
     ensures { line sets.new numbers.new
         ≡ line_marked i number a.0 (line sets.old numbers.old) }
 {
-    let asked = AtomSet(sets[i]);
+    let asked = Set(sets[i]);
     if asked.has(a) {
         return;
     }
     let more = asked.with(a);
     sets[i] = more.0;
-    numbers[a.0 as usize] = number;
+    numbers[usize::from(a.0)] = number;
 }
 
+// The atoms come one by one from below, as members lists them: a set has no iterator, and one for this loop would be no plainer.
 fn mark_all(sets: &mut [u32], numbers: &mut [u8], i: usize, atoms: AtomSet, number: u8)
     requires { (i < length sets.old) × (length numbers.old ≡ 32) }
     ensures { line sets.new numbers.new
         ≡ line_marked_all i number (members 32 atoms.0) (line sets.old numbers.old) }
 {
-    let mut rest = atoms.minus(AtomSet(sets[i]));
+    let mut rest = atoms.minus(Set(sets[i]));
     while !rest.is_empty() {
         mark(sets, numbers, i, rest.lowest(), number);
         rest = rest.without_lowest();
     }
 }
 
-// The same in the tables. They come as slices and the row is lent on as slices: so all lengths are known here, and those who call are told that the row
-// is there.
-fn raise(asked: &mut [Sets], firsts: &mut [Numbers], column: usize, i: usize, a: Atom, number: u8)
-    requires { (column < length asked.old) × (i < 512) × (row_of column i < length firsts.old) × (a.0 < 32) }
-    ensures there { RowThere column i (sheet asked.old firsts.old) }
-    ensures content { sheet asked.new firsts.new
-        ≡ marked column i number a.0 (sheet asked.old firsts.old) }
-{
-    let row = column * MOST_NODES + i;
-    mark(&mut asked[column], &mut firsts[row], i, a, number);
+// The two tables, lent together.
+#[derive(Drop)]
+pub struct Demands<'a> {
+    pub asked: &'a mut Asked,
+    pub firsts: &'a mut Firsts,
 }
 
-fn raise_all(
-    asked: &mut [Sets],
-    firsts: &mut [Numbers],
-    column: usize,
-    i: usize,
-    atoms: AtomSet,
-    number: u8,
-)
-    requires { (column < length asked.old) × (i < 512) × (row_of column i < length firsts.old) }
-    ensures there { RowThere column i (sheet asked.old firsts.old) }
-    ensures content { sheet asked.new firsts.new
-        ≡ marked_all column i number (members 32 atoms.0) (sheet asked.old firsts.old) }
-{
-    let row = column * MOST_NODES + i;
-    mark_all(&mut asked[column], &mut firsts[row], i, atoms, number);
-}
-
-// The atom whose image is a: of several the first counts, and it is 0 if there is none, as in the inverse.
-fn preimage(p: Permutation, n: usize, a: Atom) -> Atom
-    requires { (n ≤ 32) × (a.0 < n) }
-    ensures { result.0 ≡ image (inverted (table n p)) a.0 }
-{
-    let mut i: usize = 0;
-    while i < n {
-        let c = Atom(i as u8);
-        let b = permutation::image(p, n, c);
-        if b.0 == a.0 {
-            return c;
-        }
-        i += 1;
+// `same`: of a struct behind &mut it is not known that a field keeps its reference, so each method that changes what is lent says it.
+impl<'a> Demands<'a> {
+    // "a is demanded fresh for t": of the side's node it is the atom that the side's images send to a.
+    pub fn raise_side(&mut self, a: Atom, p: Permutation, atoms: usize, node: NodeId, number: u8)
+        requires { (atoms ≤ 32) × (a.0 < atoms) × (node.0 < 512) }
+        ensures same { (self.new.asked.ghost_name ≡ self.old.asked.ghost_name) × (self.new.firsts.ghost_name ≡ self.old.firsts.ghost_name) }
+        ensures raised { SideRaised a.0 (table atoms p) node.0 number
+            (sheet self.old.asked.now self.old.firsts.now) (sheet self.new.asked.now self.new.firsts.now) }
+    {
+        let b = rows::preimage(&rows::keep(p), atoms, a);
+        self.raise_node(b, node, number);
     }
-    Atom(0)
-}
 
-// "a is demanded fresh for t": of the side's node it is the atom that the side's images send to a.
-pub fn raise_side(
-    asked: &mut Asked,
-    firsts: &mut Firsts,
-    a: Atom,
-    p: Permutation,
-    atoms: usize,
-    node: NodeId,
-    number: u8,
-)
-    requires { (atoms ≤ 32) × (a.0 < atoms) × (node.0 < 512) }
-    ensures { SideRaised a.0 (table atoms p) node.0 number
-        (sheet asked.old firsts.old) (sheet asked.new firsts.new) }
-{
-    let b = preimage(p, atoms, a);
-    raise_node(asked, firsts, b, node, number);
-}
+    // The same where that atom is known: the one that a side's images send to the atom demanded.
+    pub fn raise_node(&mut self, b: Atom, node: NodeId, number: u8)
+        requires { (b.0 < 32) × (node.0 < 512) }
+        ensures same { (self.new.asked.ghost_name ≡ self.old.asked.ghost_name) × (self.new.firsts.ghost_name ≡ self.old.firsts.ghost_name) }
+        ensures raised { NodeRaised b.0 node.0 number
+            (sheet self.old.asked.now self.old.firsts.now) (sheet self.new.asked.now self.new.firsts.now) }
+    {
+        let i = usize::from(node.0);
+        let asked = &mut *self.asked;
+        let firsts = &mut *self.firsts;
+        mark(&mut asked[NODES], &mut firsts[i], i, b, number);
+    }
 
-// The same where that atom is known: the one that a side's images send to the atom demanded.
-pub fn raise_node(asked: &mut Asked, firsts: &mut Firsts, b: Atom, node: NodeId, number: u8)
-    requires { (b.0 < 32) × (node.0 < 512) }
-    ensures { NodeRaised b.0 node.0 number
-        (sheet asked.old firsts.old) (sheet asked.new firsts.new) }
-{
-    raise(asked, firsts, NODES, node.0 as usize, b, number);
-}
-
-// "each atom of the disagreement set is demanded fresh for X"
-pub fn raise_variable(
-    asked: &mut Asked,
-    firsts: &mut Firsts,
-    atoms: AtomSet,
-    x: Variable,
-    number: u8,
-)
-    requires { x.0 < 64 }
-    ensures { VariableRaised atoms.0 x.0 number
-        (sheet asked.old firsts.old) (sheet asked.new firsts.new) }
-{
-    raise_all(asked, firsts, VARIABLES, x.0 as usize, atoms, number);
+    // "each atom of the disagreement set is demanded fresh for X"
+    pub fn raise_variable(&mut self, atoms: AtomSet, x: Variable, number: u8)
+        requires { x.0 < 64 }
+        ensures same { (self.new.asked.ghost_name ≡ self.old.asked.ghost_name) × (self.new.firsts.ghost_name ≡ self.old.firsts.ghost_name) }
+        ensures raised { VariableRaised atoms.0 x.0 number
+            (sheet self.old.asked.now self.old.firsts.now) (sheet self.new.asked.now self.new.firsts.now) }
+    {
+        let i = usize::from(x.0);
+        let asked = &mut *self.asked;
+        let firsts = &mut *self.firsts;
+        mark_all(
+            &mut asked[VARIABLES],
+            &mut firsts[MOST_NODES + i],
+            i,
+            atoms,
+            number,
+        );
+    }
 }

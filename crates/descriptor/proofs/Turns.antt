@@ -3,7 +3,7 @@ use Prim.Native.Nat.{ℕ, ◌+◌, ◌≤◌, ◌<◌}
 use native.Mathlib.Omega.{arith}
 use mathlib.Core.Logic.{◌⊎◌, inl, inr, ⊎_elim}
 use mathlib.Core.Path.{◌≡◌}
-use lib.IntN.{ℤ, pos, negsuc}
+use Rattle.std.specs.Prelude.{ℤ, Result, Ok, Err}
 use Rattle.descriptor.specs.Answers.{Moved, moved_of}
 use Rattle.descriptor.specs.Rounds.{All}
 use Rattle.descriptor.specs.declared.Answer.{Answer}
@@ -20,6 +20,6 @@ goes_on n done more last h e k m = (omega arith, inr (omega arith, (omega arith,
 pub all_done : (n done : ℕ) (last : Answer) → Reached n done last → done ≡ n → All n done last
 all_done n done last r d = (d, ⊎_elim (λ e. inl (omega arith)) (λ f. inr (f.0, (f.1.0, omega arith))) r)
 
-pub no_more : (n : ℕ) (z : ℤ) → Moved n z → moved_of z ≤ n
-no_more n (pos k) h = h
-no_more n (negsuc k) h = omega arith
+pub no_more : (n : ℕ) (z : Result ℕ ℤ) → Moved n z → moved_of z ≤ n
+no_more n (Ok k) h = h
+no_more n (Err e) h = omega arith

@@ -5,55 +5,52 @@
 // say it: what the system does there is tested.
 #![tactic(auto)]
 
-ghost use Rattle.std.specs.Prelude.{◌≡◌, ◌<◌, ◌^◌, IfOk, IfSome, length, pos, take};
+ghost use Rattle.std.specs.Prelude.{◌≡◌, ◌<◌, IfSome, length, take};
 ghost use Rattle.std.specs.Io.KnownBytes.{Appends, Consumes, IsAtEnd};
 ghost use Rattle.std.specs.IoError.{raw_os_error};
-ghost use Rattle.descriptor.specs.Answers.{Moved, moved_of, failed_of, fault_of, got_of, passes};
+ghost use Rattle.descriptor.specs.Answers.{Moved, moved_of, failed_of, error_of, fault_of, tries_again};
 
 use std::io::{ErrorKind, Read, Write};
 use std::time::{Clock, Duration};
 use std::{io, thread};
 
-// How many bytes the call was asked to move, and what it answered: how many it moved, or a negative number where it failed, and then the number of the
-// system's error.
-#[derive(Clone, Copy)]
+// How many bytes the call was asked to move, and what it answered: how many it moved, or the system's number for why it failed.
+#[derive(Clone, Copy, PartialEq, Eq)]
 pub struct Answer {
     asked: usize,
-    got: isize,
-    error: i32,
+    got: Result<usize, i32>,
 }
 
-// No call was made.
-pub fn none() -> Answer
-    ensures { (result.asked ≡ 0) × (result.got ≡ pos 0) }
-{
-    Answer {
-        asked: 0,
-        got: 0,
-        error: 0,
+impl Answer {
+    // No call was made. An Answer and no Option of one: Fills and Puts speak of the last answer also where nothing was to be read or written.
+    pub fn none() -> Answer
+        ensures { (result.asked ≡ 0) × (result.got ≡ Ok 0) }
+    {
+        Answer {
+            asked: 0,
+            got: Ok(0),
+        }
     }
-}
 
-pub fn failed(answer: Answer) -> bool
-    ensures { result ≡ failed_of answer.got }
-{
-    answer.got < 0
-}
-
-pub fn moved(answer: Answer) -> usize
-    ensures { result ≡ moved_of answer.got }
-{
-    if failed(answer) {
-        return 0;
+    pub fn failed(&self) -> bool
+        ensures { result ≡ failed_of self.now.got }
+    {
+        self.got.is_err()
     }
-    answer.got as usize
-}
 
-// Why a call failed, as the system numbers it.
-pub fn error(answer: Answer) -> i32
-    ensures { result ≡ answer.error }
-{
-    answer.error
+    pub fn moved(&self) -> usize
+        ensures { result ≡ moved_of self.now.got }
+    {
+        self.got.unwrap_or(0)
+    }
+
+    // Why the call failed, as the system numbers it, and 0 where it did not. 0 and no Option: a write that took nothing failed with no error, and notice
+    // tells of it in the system's words for 0.
+    pub fn error(&self) -> i32
+        ensures { result ≡ error_of self.now.got }
+    {
+        self.got.err().unwrap_or(0)
+    }
 }
 
 // The system's numbers for a signal that came, for nothing that can be moved now, and for a failure that it has no other word for.
@@ -64,23 +61,23 @@ const EAGAIN: i32 = 11;
 const EIO: i32 = 5;
 
 // Why a call failed: a signal came before anything was moved, nothing can be moved now, or something that does not pass.
-#[derive(Clone, Copy)]
+#[derive(Clone, Copy, PartialEq, Eq)]
 enum Fault {
     Interrupted,
     Busy,
     Lasting,
 }
 
-fn fault_of(error: i32) -> Fault
-    ensures { result ≡ fault_of error }
-{
-    if error == EINTR {
-        return Fault::Interrupted;
+impl From<i32> for Fault {
+    ghost from_gives = { λ error fault. fault ≡ fault_of error };
+
+    fn from(error: i32) -> Fault {
+        match error {
+            EINTR => Fault::Interrupted,
+            EAGAIN => Fault::Busy,
+            _ => Fault::Lasting,
+        }
     }
-    if error == EAGAIN {
-        return Fault::Busy;
-    }
-    Fault::Lasting
 }
 
 // Waits a millisecond: long enough that waiting costs next to nothing, and too short to be noticed.
@@ -88,29 +85,20 @@ fn rest<C: Clock>(clock: &C) {
     thread::sleep(clock, Duration::from_millis(1));
 }
 
-// Whether a call that failed with this error is to be made again; where it has to wait first, it has.
-fn again<C: Clock>(clock: &C, error: i32) -> bool
-    ensures { result ≡ passes (fault_of error) }
+// Whether a call that answered so is to be made again; where it has to wait first, it has.
+fn again<C: Clock>(clock: &C, got: Result<usize, i32>) -> bool
+    ensures { result ≡ tries_again got }
 {
-    let fault = fault_of(error);
-    match fault {
+    let Err(error) = got else {
+        return false;
+    };
+    match Fault::from(error) {
         Fault::Interrupted => true,
         Fault::Busy => {
             rest(clock);
             true
         }
         Fault::Lasting => false,
-    }
-}
-
-// How many bytes a call moved, or -1 where it failed.
-fn got_of(outcome: io::Result<usize>) -> isize
-    requires { IfOk outcome (λ n. n < 2 ^ 63) }
-    ensures { result ≡ got_of outcome }
-{
-    match outcome {
-        Ok(n) => n as isize,
-        Err(_) => -1,
     }
 }
 
@@ -128,37 +116,24 @@ fn number_of(error: io::Error) -> i32
     }
 }
 
-// Why a call failed, and 0 where it did not.
-fn error_of(outcome: io::Result<usize>) -> i32 {
-    match outcome {
-        Ok(_) => 0,
-        Err(error) => number_of(error),
-    }
-}
-
-// Reads once. A signal, or an input that has nothing yet, is no answer; after 2^64 such turns it is one.
+// Reads once. A signal, or an input that has nothing yet, is no answer; after 2^64 such turns it is one. `write` goes over its calls likewise, and not by one
+// function that takes the call: of what a closure that is called again leaves in the reader or the writer that it borrows, a proof knows nothing. The clock
+// goes beside: a program lends one to its input, its output and its errors alike, so a value of a reader or writer and its clock would be three of them.
 pub fn read<R: Read, C: Clock>(reader: &mut R, clock: &C, buf: &mut [u8]) -> Answer
     ensures asked_value { result.asked ≡ length buf.new }
     ensures moved { Moved (length buf.new) result.got }
     ensures bytes { Consumes (R.remaining reader.old) (R.remaining reader.new) (take (moved_of result.got) buf.new) }
-    ensures end { result.got ≡ pos 0 → 0 < length buf.new → IsAtEnd (R.remaining reader.new) }
+    ensures end { result.got ≡ Ok 0 → 0 < length buf.new → IsAtEnd (R.remaining reader.new) }
 {
     let asked = buf.len();
-    let mut turns: usize = 0;
-    loop {
-        let outcome = reader.read(buf);
-        let got = got_of(outcome);
-        let error = error_of(outcome);
-        if got < 0 && turns < 18446744073709551615 && again(clock, error) {
-            turns += 1;
-        } else {
-            return Answer {
-                asked: asked,
-                got: got,
-                error: error,
-            };
+    let mut got = reader.read(buf).map_err(number_of);
+    for _ in 0..usize::MAX {
+        if !again(clock, got) {
+            break;
         }
+        got = reader.read(buf).map_err(number_of);
     }
+    Answer { asked, got }
 }
 
 // Writes once. A signal, or an output that takes nothing now, is no answer; after 2^64 such turns it is one.
@@ -167,19 +142,15 @@ pub fn write<W: Write, C: Clock>(writer: &mut W, clock: &C, buf: &[u8]) -> Answe
     ensures moved { Moved (length buf.now) result.got }
     ensures bytes { Appends (W.contents writer.old) (W.contents writer.new) (take (moved_of result.got) buf.now) }
 {
-    let mut turns: usize = 0;
-    loop {
-        let outcome = writer.write(buf);
-        let got = got_of(outcome);
-        let error = error_of(outcome);
-        if got < 0 && turns < 18446744073709551615 && again(clock, error) {
-            turns += 1;
-        } else {
-            return Answer {
-                asked: buf.len(),
-                got: got,
-                error: error,
-            };
+    let mut got = writer.write(buf).map_err(number_of);
+    for _ in 0..usize::MAX {
+        if !again(clock, got) {
+            break;
         }
+        got = writer.write(buf).map_err(number_of);
+    }
+    Answer {
+        asked: buf.len(),
+        got,
     }
 }

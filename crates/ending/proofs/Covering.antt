@@ -7,7 +7,6 @@ use mathlib.Core.Logic.{◌↔◌}
 use mathlib.Core.Bool.{Bool, true, false, not, ◌&&◌, cond, true≢false}
 use mathlib.Core.List.{List, Memᴰ}
 use lib.ListN.{get_or}
-use lib.Dec.{eqb}
 use borrow.Author.Tests.{eqb-true, eq-eqb, not-true, not-false}
 use Rattle.sets.specs.Bits.{member, difference}
 use Rattle.sets.proofs.Bits.{by_test, subset_member, member_subset}
@@ -22,17 +21,6 @@ use Rattle.ending.specs.Covered.{covered_at, covered_from, covered}
 use Rattle.ending.proofs.Tests.{same_test, and_not, assumes_fact}
 
 module _ (bound : ℕ) (asked assumed : List ℕ) where
-  -- ---- one variable
-
-  pub covers_bound : (X : ℕ) (is_bound : Bool) → is_bound ≡ member bound X → is_bound ≡ true → true ≡ covered_at bound asked assumed X
-  unfolding covered_at
-  covers_bound X is_bound e q = rw (sym e ∙ q)
-
-  pub covers_free : (X more : ℕ) (is_bound r : Bool) → is_bound ≡ member bound X → is_bound ≡ false
-      → more ≡ difference (get_or asked X 0) (get_or assumed X 0) → r ≡ eqb more 0 → r ≡ covered_at bound asked assumed X
-  unfolding covered_at
-  covers_free X more is_bound r e q u v = v ∙ ap (λ (n : ℕ). eqb n 0) u ∙ rw (sym e ∙ q)
-
   -- ---- one after the other: after x of n variables the rest decides
 
   module _ (n : ℕ) where

@@ -17,7 +17,9 @@ use Rattle.bindings.specs.Bindings.{Bindings, bindings_of}
 use Rattle.asked.specs.Added.{Words}
 use Rattle.answer.specs.Facts.{facts_in}
 use Rattle.answer.proofs.Facts.{facts_read}
-use Rattle.numbers.specs.declared.Given.{Given}
+use Rattle.std.specs.Prelude.{Ok, Err}
+use Rattle.numbers.specs.declared.Reason.TheVariants.{NotFresh, DoesNotHold}
+use Rattle.numbers.specs.declared.Refusal.{Refusal}
 use Rattle.numbers.specs.Numbers.{result_of, judgement_given}
 use Rattle.ending.specs.Covered.{covered}
 use Rattle.ending.specs.Ended.{Outcome, Ended, end_in}
@@ -44,8 +46,8 @@ module _ {p : Problem} (r : Readable p) {t : Bindings} {count bound : ℕ} {aske
     in_order : resolved_all σ (of_file ++ asked_assumed p.assumptions ++ raised) ≡ resolved_all σ (of_file ++ (asked_assumed p.assumptions ++ raised))
     in_order = ap (resolved_all σ) (append_assoc of_file (asked_assumed p.assumptions) raised)
 
-    pub conclude_not_fresh : {g : Given} {output : List ℕ} → fails ≡ true → g ≡ record { number = 12; place = 0 }
-        → result_of g output ≡ given (verdict_of p (end_in e)) output
+    pub conclude_not_fresh : {f : Refusal} {output : List ℕ} → fails ≡ true → f ≡ record { reason = NotFresh; place = 0 }
+        → result_of (Err f) output ≡ given (verdict_of p (end_in e)) output
     unfolding verdict_of given
     conclude_not_fresh q given_is = rw (given_is, in_order ∙ o.not_fresh q)
 
@@ -68,7 +70,8 @@ module _ {p : Problem} (r : Readable p) {t : Bindings} {count bound : ℕ} {aske
   -- ---- the judge
 
   module _ {after : List ℕ} {fails : Bool} (o : Outcome p bindings (of_file ++ raised) bound after fails) where
-    pub judge_not_fresh : {g : Given} → fails ≡ true → g ≡ record { number = 14; place = 0 } → judgement_given g ≡ run.judgement_of p (end_in e)
+    pub judge_not_fresh : {f : Refusal} → fails ≡ true → f ≡ record { reason = DoesNotHold; place = 0 }
+        → judgement_given (Err f) ≡ run.judgement_of p (end_in e)
     unfolding run.judgement_of
     judge_not_fresh q given_is = rw (given_is, o.not_fresh q)
 
@@ -82,8 +85,9 @@ module _ {p : Problem} (r : Readable p) {t : Bindings} {count bound : ℕ} {aske
           let c = all_assumed bound after assumed narrow p.variables p.assumptions fs held says few in
           rw (q, c, sym all_variables, sym found)
 
-      pub judge_holds : {g : Given} → all ≡ true → g ≡ record { number = 0; place = 0 } → judgement_given g ≡ run.judgement_of p (end_in e)
-      judge_holds q given_is = rw given_is (sym (decided ∙ rw q))
+      pub judge_holds : all ≡ true → judgement_given (Ok (tt)) ≡ run.judgement_of p (end_in e)
+      judge_holds q = sym (decided ∙ rw q)
 
-      pub judge_does_not : {g : Given} → all ≡ false → g ≡ record { number = 14; place = 0 } → judgement_given g ≡ run.judgement_of p (end_in e)
+      pub judge_does_not : {f : Refusal} → all ≡ false → f ≡ record { reason = DoesNotHold; place = 0 }
+          → judgement_given (Err f) ≡ run.judgement_of p (end_in e)
       judge_does_not q given_is = rw given_is (sym (decided ∙ rw q))

@@ -1,6 +1,6 @@
 -- After the last equation: how bindings and demands stand in the tables, what resolving tells, and what the solver and the judge then give back. Nothing here
 -- says who made the bindings or raised the demands. Definitions alone; their laws are in proofs/.
-use Rattle.std.specs.Prelude.{ℕ, ◌-◌, ◌<◌, ◌≡◌, Bool, true, false, not, ◌&&◌, List, ◌++◌, get_or}
+use Rattle.std.specs.Prelude.{ℕ, ◌-◌, ◌<◌, ◌≡◌, Bool, true, false, not, ◌&&◌, List, ◌++◌, get_or, Result}
 use Rattle.std.proofs.Math.Option.{none, some}
 use Rattle.sets.specs.Bits.{member}
 use Rattle.problem.specs.Problem.{Problem}
@@ -13,7 +13,7 @@ use Rattle.visit.specs.Pairs.{Pair}
 use Rattle.fresh.specs.Resolved.{Asks}
 use Rattle.fresh.specs.Meaning.{Meaningful}
 use Rattle.fresh.specs.Marks.{Demanded, atom_of}
-use Rattle.numbers.specs.declared.Given.{Given}
+use Rattle.numbers.specs.declared.Refusal.{Refusal}
 use Rattle.numbers.specs.Numbers.{result_of, judgement_given}
 
 -- Only atoms that are there are demanded.
@@ -53,7 +53,7 @@ abbrev pub end_in : {p : Problem} {t : Bindings} {count bound : ℕ} {asked : Li
 end_in {p} {t} {count} e = finished e.left (bindings_of p.atoms t count) e.demands
 
 -- What the solver gives back for it, and the judge.
-abbrev pub Concludes : Problem → Bindings → ℕ → ℕ → List (List ℕ) → ℕ → Given → List ℕ → List ℕ → Type 0
+abbrev pub Concludes : Problem → Bindings → ℕ → ℕ → List (List ℕ) → ℕ → Result ℕ Refusal → List ℕ → List ℕ → Type 0
 Concludes p t count bound asked steps r before after =
     (e : Ended p t count bound asked steps) → result_of r after ≡ given (verdict_of p (end_in e)) before
 
@@ -61,6 +61,6 @@ Concludes p t count bound asked steps r before after =
 abbrev pub SomeEnded : Problem → Bindings → ℕ → List (List ℕ) → Type 0
 SomeEnded p t bound asked = (count : ℕ) × (steps : ℕ) × Ended p t count bound asked steps
 
-abbrev pub Judges : Problem → Bindings → ℕ → List (List ℕ) → Given → Type 0
+abbrev pub Judges : Problem → Bindings → ℕ → List (List ℕ) → Result Unit Refusal → Type 0
 Judges p t bound asked r =
     (count steps : ℕ) (e : Ended p t count bound asked steps) → judgement_given r ≡ run.judgement_of p (end_in e)

@@ -16,105 +16,98 @@ ghost use Rattle.ending.specs.Ended.{Small, Resolves, Ended, SomeEnded, Conclude
 
 use crate::assumed::all_assumed;
 use crate::words::words;
-use bindings::{Made, Values};
+use bindings::Bindings;
 use demands::Asked;
 use fresh::Marks;
-use numbers::{DOES_NOT_HOLD, Given, HOLDS, NOT_FRESH, give};
-use problem::{Assumed, Counts, Places};
+use numbers::{Judged, Reason, Solved, refuse};
+use problem::{Assumed, Counts, Input};
 use sets::VariableSet;
 
 // The demands in the tables and those of the file's freshness fields. Answers whether they fail; the atoms asked of each variable are left in the table.
+// bindings and asked come one by one and not as a Work with both: that is perform's, and no part of what this crate may know.
 fn resolve(
-    s: &[u8],
+    input: &Input,
     c: Counts,
-    places: &Places,
-    made: &Made,
-    values: &Values,
+    bindings: &Bindings,
     asked: &mut Asked,
     marks: &mut Marks,
     bound: VariableSet,
 ) -> bool
-    requires read { Standing s.now places.now × (c ≡ counts_of (problem_of s.now)) }
-    requires bound { Bound (problem_of s.now) bound.0 made.now values.now }
-    requires small { Small (problem_of s.now) asked.old }
-    ensures { Resolves (problem_of s.now) (binding_tables made.now values.now) bound.0
+    requires read { Standing input.now.bytes.now input.now.places.now × (c ≡ counts_of (problem_of input.now.bytes.now)) }
+    requires bound { Bound (problem_of input.now.bytes.now) bound.0 bindings.now.made.now bindings.now.values.now }
+    requires small { Small (problem_of input.now.bytes.now) asked.old }
+    ensures { Resolves (problem_of input.now.bytes.now) (binding_tables bindings.now.made.now bindings.now.values.now) bound.0
         asked.old (asked_of_variables asked.new) result }
 {
-    asked::add_freshness(s, places, asked, c.freshness as usize);
+    asked::add_freshness(input, asked, usize::from(c.freshness));
     fresh::resolve(
-        s,
-        places,
+        input,
         bound,
-        made,
-        values,
+        bindings,
         asked,
         marks,
-        c.nodes as usize,
-        c.atoms as usize,
-        c.variables as usize,
+        usize::from(c.nodes),
+        usize::from(c.atoms),
+        usize::from(c.variables),
     )
 }
 
-// The solver's answer, for a run that is finished after so many steps.
+// The solver's answer, for a run that is finished after so many steps. What is known of the run comes as three numbers: a struct of them would be a twin of
+// the machine's, which is no part of what this crate may know.
 pub fn conclude(
-    s: &[u8],
+    input: &Input,
     c: Counts,
     output: &mut [u8],
-    places: &Places,
     assumed: &Assumed,
-    made: &Made,
-    values: &Values,
+    bindings: &Bindings,
     asked: &mut Asked,
     marks: &mut Marks,
     bound: VariableSet,
     count: usize,
     steps: u32,
-) -> Given
-    requires read { ReadInto s.now places.now assumed.now c }
-    requires ended { Ended (problem_of s.now) (binding_tables made.now values.now) count bound.0 asked.old steps }
-    ensures { Concludes (problem_of s.now) (binding_tables made.now values.now) count bound.0
+) -> Solved
+    requires read { ReadInto input.now.bytes.now input.now.places.now assumed.now c }
+    requires ended { Ended (problem_of input.now.bytes.now) (binding_tables bindings.now.made.now bindings.now.values.now) count bound.0 asked.old steps }
+    ensures { Concludes (problem_of input.now.bytes.now) (binding_tables bindings.now.made.now bindings.now.values.now) count bound.0
         asked.old steps result output.old output.new }
 {
-    let variables = c.variables as usize;
+    let variables = usize::from(c.variables);
     asked::add_assumptions(assumed, asked, variables);
-    if resolve(s, c, places, made, values, asked, marks, bound) {
-        return give(NOT_FRESH, 0);
+    if resolve(input, c, bindings, asked, marks, bound) {
+        return Err(refuse(Reason::NotFresh, 0));
     }
     answer::write(
         output,
-        made,
-        values,
+        bindings,
         asked,
         steps,
         count,
         bound,
-        c.atoms as usize,
+        usize::from(c.atoms),
         variables,
     )
 }
 
 // The judgement, for a run that is finished: "without the assumption demands".
 pub fn judged(
-    s: &[u8],
+    input: &Input,
     c: Counts,
-    places: &Places,
     assumed: &Assumed,
-    made: &Made,
-    values: &Values,
+    bindings: &Bindings,
     asked: &mut Asked,
     marks: &mut Marks,
     bound: VariableSet,
-) -> Given
-    requires read { ReadInto s.now places.now assumed.now c }
-    requires ended { SomeEnded (problem_of s.now) (binding_tables made.now values.now) bound.0 asked.old }
-    ensures { Judges (problem_of s.now) (binding_tables made.now values.now) bound.0 asked.old result }
+) -> Judged
+    requires read { ReadInto input.now.bytes.now input.now.places.now assumed.now c }
+    requires ended { SomeEnded (problem_of input.now.bytes.now) (binding_tables bindings.now.made.now bindings.now.values.now) bound.0 asked.old }
+    ensures { Judges (problem_of input.now.bytes.now) (binding_tables bindings.now.made.now bindings.now.values.now) bound.0 asked.old result }
 {
-    if resolve(s, c, places, made, values, asked, marks, bound) {
-        return give(DOES_NOT_HOLD, 0);
+    if resolve(input, c, bindings, asked, marks, bound) {
+        return Err(refuse(Reason::DoesNotHold, 0));
     }
     words(asked);
-    if all_assumed(bound, asked, assumed, c.variables as usize) {
-        return give(HOLDS, 0);
+    if all_assumed(bound, asked, assumed, usize::from(c.variables)) {
+        return Ok(());
     }
-    give(DOES_NOT_HOLD, 0)
+    Err(refuse(Reason::DoesNotHold, 0))
 }

@@ -1,13 +1,10 @@
 -- What the number in the first eight bytes has of them, and of a whole field at the front.
 use Prim.Native.Nat.{ℕ, ◌+◌, ◌*◌, ◌-◌, ◌%◌, ◌≤◌, ◌<◌, ◌^◌}
 use native.Mathlib.Omega.{arith}
-use native.Mathlib.Nat.{mod-eq_of_lt, pow-le-pow_right}
 use mathlib.Core.Path.{◌≡◌, sym, ◌∙◌, ap}
 use mathlib.Core.List.{List, [], ◌∷◌}
 use lib.ListN.{length, drop, get_or-eq_default}
 use lib.Seq.{get_or-take, get_or-drop}
-use lib.Pow.{pow-add, shl_lt}
-use lib.Bits.{bit_or, or_shifted}
 use Rattle.field.specs.Field.{whole, front, byte, Bytes, word, long, FieldStands}
 use Rattle.field.specs.Word.{eight, tag_in, length_in, key_in, first_byte_in, second_byte_in, first_two_in, middle_two_in, last_two_in}
 use Rattle.field.proofs.Standing.{stands}
@@ -81,57 +78,6 @@ module _ (s : List ℕ) {tag : ℕ} {body rest : List ℕ} (b : Bytes s) (e : fr
 
   pub field_last_two : 4 ≤ length body → last_two_in (eight s) ≡ word body 2
   field_last_two h = omega (arith, eight_last_two s b, one_on field_stands 2 (omega arith), one_on field_stands 3 (omega arith))
-
--- ---- eight bytes joined by shifts
-
--- A byte, moved up, as the code has it.
-abbrev up : ℕ → ℕ → ℕ
-up b k = b * 2 ^ k % 2 ^ 64
-
--- One byte more is joined to those before it.
-next : {c : ℕ} (a b k : ℕ) → c ≡ a * 2 ^ (8 + k) → b < 256 → k ≤ 56 → bit_or c (up b k) ≡ (a * 256 + b) * 2 ^ k
-next {c} a b k e h few =
-    let p : ℕ = 2 ^ k in
-    let small : b * p < 2 ^ (8 + k) = shl_lt 8 k h in
-    let room : 2 ^ (8 + k) ≤ 2 ^ 64 = pow-le-pow_right {n = 2} (omega arith) {i = 8 + k} {j = 64} (omega arith) in
-    rw (e, mod-eq_of_lt {n = b * p} {m = 2 ^ 64} (omega arith), or_shifted a (8 + k) (b * p) small, pow-add 2 8 k) (omega arith)
-
-module _ (s : List ℕ) (b : Bytes s) where
-  pub eight_joined :
-      bit_or (bit_or (bit_or (bit_or (bit_or (bit_or (bit_or (up (byte s 0) 56) (up (byte s 1) 48)) (up (byte s 2) 40)) (up (byte s 3) 32))
-      (up (byte s 4) 24)) (up (byte s 5) 16)) (up (byte s 6) 8)) (byte s 7)
-      ≡ eight s
-  unfolding eight
-  eight_joined =
-      let a₀ : ℕ = byte s 0 in
-      let a₁ : ℕ = a₀ * 256 + byte s 1 in
-      let a₂ : ℕ = a₁ * 256 + byte s 2 in
-      let a₃ : ℕ = a₂ * 256 + byte s 3 in
-      let a₄ : ℕ = a₃ * 256 + byte s 4 in
-      let a₅ : ℕ = a₄ * 256 + byte s 5 in
-      let a₆ : ℕ = a₅ * 256 + byte s 6 in
-      let e₀ : up a₀ 56 ≡ a₀ * 2 ^ 56 = omega (arith, b 0) in
-      let e₁ = next a₀ (byte s 1) 48 e₀ (b 1) (omega arith) in
-      let e₂ = next a₁ (byte s 2) 40 e₁ (b 2) (omega arith) in
-      let e₃ = next a₂ (byte s 3) 32 e₂ (b 3) (omega arith) in
-      let e₄ = next a₃ (byte s 4) 24 e₃ (b 4) (omega arith) in
-      let e₅ = next a₄ (byte s 5) 16 e₄ (b 5) (omega arith) in
-      let e₆ = next a₅ (byte s 6) 8 e₅ (b 6) (omega arith) in
-      rw (e₆, or_shifted a₆ 8 (byte s 7) (b 7)) (omega arith)
-
-  pub long_joined : (i : ℕ) → bit_or (bit_or (bit_or (up (byte s i) 24) (up (byte s (i + 1)) 16)) (up (byte s (i + 2)) 8)) (byte s (i + 3)) ≡ long s i
-  long_joined i =
-      let a₀ : ℕ = byte s i in
-      let a₁ : ℕ = a₀ * 256 + byte s (i + 1) in
-      let a₂ : ℕ = a₁ * 256 + byte s (i + 2) in
-      let e₀ : up a₀ 24 ≡ a₀ * 2 ^ 24 = omega (arith, b i) in
-      let e₁ = next a₀ (byte s (i + 1)) 16 e₀ (b (i + 1)) (omega arith) in
-      let e₂ = next a₁ (byte s (i + 2)) 8 e₁ (b (i + 2)) (omega arith) in
-      let last : i + 2 + 1 ≡ i + 3 = omega arith in
-      rw (e₂, or_shifted a₂ 8 (byte s (i + 3)) (b (i + 3))) (omega (arith, ap (byte s) last))
-
-  pub long_small : (i : ℕ) → long s i < 4294967296
-  long_small i = omega (arith, b i, b (i + 1), b (i + 2), b (i + 2 + 1))
 
 -- ---- fewer than eight bytes
 

@@ -7,34 +7,31 @@ ghost use Rattle.std.specs.Prelude.{◌≡◌, ◌+◌, ◌≤◌, ◌<◌, leng
 ghost use Rattle.field.specs.Field.{word, long};
 ghost use Rattle.field.specs.Front.{front_of};
 
-// A whole field with its tag and the length of its body; a field that is cut short; nothing.
-#[derive(Clone, Copy)]
+// A whole field with its tag and the length of its body; a field that is cut short; nothing. Document 01 tells three things apart, and so does each
+// caller's one match: an Option in a Result would tell them in two.
+#[derive(Clone, Copy, PartialEq, Eq)]
 pub enum AtFront {
     Whole(u8, usize),
     Cut,
     End,
 }
 
-fn wide(x: u8) -> usize
-    ensures { (result ≡ x) × (result < 256) }
-{
-    x as usize
-}
-
+#[tactic(auto, using(crate::proofs::Told::is_end, crate::proofs::Told::is_short, crate::proofs::Told::is_whole, crate::proofs::Told::is_cut))]
 pub fn front(s: &[u8]) -> AtFront
     ensures { result ≡ front_of s.now }
 {
-    if s.len() < 3 {
-        if s.len() == 0 {
-            return AtFront::End;
+    match s {
+        [] => AtFront::End,
+        [tag, high, low, rest @ ..] => {
+            let n = usize::from(u16::from_be_bytes([*high, *low]));
+            if n <= rest.len() {
+                AtFront::Whole(*tag, n)
+            } else {
+                AtFront::Cut
+            }
         }
-        return AtFront::Cut;
+        _ => AtFront::Cut,
     }
-    let n = wide(s[1]) * 256 + wide(s[2]);
-    if n <= s.len() - 3 {
-        return AtFront::Whole(s[0], n);
-    }
-    AtFront::Cut
 }
 
 // The body, a part of the caller's slice.
@@ -45,18 +42,12 @@ pub fn body(s: &[u8], n: usize) -> &[u8]
     &s[3..3 + n]
 }
 
-fn wide16(x: u8) -> u16
-    ensures { (result ≡ x) × (result < 256) }
-{
-    x as u16
-}
-
-// The number in the two bytes from i.
+// The number in the two bytes from i; `four` is not the same function, since from_be_bytes is of each type and of no trait.
 pub fn two(s: &[u8], i: usize) -> u16
     requires { i + 2 ≤ length s.now }
     ensures { result ≡ word s.now i }
 {
-    wide16(s[i]) * 256 + wide16(s[i + 1])
+    u16::from_be_bytes([s[i], s[i + 1]])
 }
 
 // The number in the four bytes from i.
@@ -64,7 +55,5 @@ pub fn four(s: &[u8], i: usize) -> u32
     requires { i + 4 ≤ length s.now }
     ensures { result ≡ long s.now i }
 {
-    let high = two(s, i) as u32;
-    let low = two(s, i + 2) as u32;
-    high * 65536 + low
+    u32::from_be_bytes([s[i], s[i + 1], s[i + 2], s[i + 3]])
 }

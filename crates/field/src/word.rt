@@ -1,30 +1,10 @@
 // The first eight bytes of a field as one number: its tag, its length and the numbers in a short body are read at once.
+// Where a number is cast to a smaller type it is less than that type holds: try_from would bring a branch that is never taken.
 ghost use Rattle.std.specs.Prelude.{◌≡◌, ◌+◌, ◌≤◌, ◌<◌, length};
-ghost use Rattle.field.specs.Field.{byte, long};
+ghost use Rattle.field.specs.Field.{byte};
 ghost use Rattle.field.specs.Word as opened;
 
-// The number in the first eight bytes. In one expression of shifts, which the compiler makes one load.
-fn whole(s: &[u8]) -> u64
-    requires { 8 ≤ length s.now }
-    ensures { result ≡ opened.eight s.now }
-{
-    ((s[0] as u64) << 56)
-        | ((s[1] as u64) << 48)
-        | ((s[2] as u64) << 40)
-        | ((s[3] as u64) << 32)
-        | ((s[4] as u64) << 24)
-        | ((s[5] as u64) << 16)
-        | ((s[6] as u64) << 8)
-        | (s[7] as u64)
-}
-
-// The number in the four bytes from i, the same way.
-fn half(s: &[u8], i: usize) -> u64
-    requires { i + 4 ≤ length s.now }
-    ensures { (result ≡ long s.now i) × (result < 4294967296) }
-{
-    ((s[i] as u64) << 24) | ((s[i + 1] as u64) << 16) | ((s[i + 2] as u64) << 8) | (s[i + 3] as u64)
-}
+use crate::four;
 
 // Where fewer than eight are left: the first four and the last four, which may overlap, moved up so that zeros stand behind the last one.
 fn few(s: &[u8]) -> u64
@@ -32,35 +12,34 @@ fn few(s: &[u8]) -> u64
     ensures { result ≡ opened.eight s.now }
 {
     let n = s.len();
-    let low = (half(s, n - 4) << ((8 * (8 - n)) as u32)) % 4294967296;
-    half(s, 0) * 4294967296 + low
+    let high = u64::from(four(s, 0));
+    let low = (u64::from(four(s, n - 4)) << (8 * (8 - n))) % 4294967296;
+    high * 4294967296 + low
 }
 
-fn byte_or_zero(s: &[u8], i: usize) -> u64
-    ensures { (result ≡ byte s.now i) × (result < 256) }
+fn byte_or_zero(s: &[u8], i: usize) -> u8
+    ensures { result ≡ byte s.now i }
 {
-    if i < s.len() {
-        return s[i] as u64;
-    }
-    0
+    s.get(i).copied().unwrap_or(0)
 }
 
 // Where fewer than four are left, zeros stand from the fourth on.
+#[tactic(auto, using(crate::proofs::Words::fewest_joined))]
 fn fewest(s: &[u8]) -> u64
     requires { length s.now < 4 }
     ensures { result ≡ opened.eight s.now }
 {
-    byte_or_zero(s, 0) * 72057594037927936
-        + byte_or_zero(s, 1) * 281474976710656
-        + byte_or_zero(s, 2) * 1099511627776
+    let [a, b, c] = [byte_or_zero(s, 0), byte_or_zero(s, 1), byte_or_zero(s, 2)];
+    u64::from_be_bytes([a, b, c, 0, 0, 0, 0, 0])
 }
 
-// The number in the first eight bytes of what is left of the input, however little that is.
+// The number in the first eight bytes of what is left of the input, however little that is. Where eight are left the compiler makes it one load.
+#[tactic(auto, unfolding(crate::specs::Word::eight))]
 pub fn eight(s: &[u8]) -> u64
     ensures { result ≡ opened.eight s.now }
 {
-    if s.len() >= 8 {
-        return whole(s);
+    if let Some(first) = s.first_chunk() {
+        return u64::from_be_bytes(*first);
     }
     if s.len() >= 4 {
         return few(s);
@@ -68,6 +47,7 @@ pub fn eight(s: &[u8]) -> u64
     fewest(s)
 }
 
+// What it has of a field. One expression each, and a name for it: one function with the place for a parameter would be read with document 01's table in hand.
 pub fn tag(w: u64) -> u8
     ensures { result ≡ opened.tag_in w }
 {

@@ -1,9 +1,9 @@
 pub mod Right
 pub mod Asked
 pub mod Images
-pub mod Cleared
 pub mod Beginning
 pub mod Closing
 pub mod Waiting
 pub mod Clashes
 pub mod Tables
+pub mod Cleared

@@ -15,7 +15,7 @@ use Rattle.run.specs.Meaning.{Binding, Fact, meaning}
 use Rattle.run.specs.Run.{Ground, value_of}
 use Rattle.run.specs.Answer.{Asked, resolved_all, has_fact}
 use Rattle.bindings.specs.Bindings.{Bindings, binding_at, bindings_of, Keeps}
-use Rattle.bindings.proofs.Bindings.{value_of_set}
+use Rattle.bindings.proofs.Laws.{value_of_set}
 use Rattle.visit.specs.Pairs.{Pair}
 use Rattle.visit.specs.Visited.{Marked}
 use Rattle.fresh.specs.Meaning.{Meaningful}

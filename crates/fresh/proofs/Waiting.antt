@@ -5,6 +5,8 @@ use mathlib.Core.Path.{◌≡◌, refl, sym, ◌∙◌, ap, subst}
 use mathlib.Core.Logic.{◌≢◌}
 use mathlib.Core.Bool.{Bool, true, false, not, ◌&&◌, ◌||◌, true≢false}
 use mathlib.Core.List.{List}
+use Rattle.std.specs.Prelude.{Option, Some, None, MatchOption}
+use Rattle.names.specs.declared.Variable.{Variable}
 use lib.ListN.{get_or}
 use Rattle.sets.specs.Bits.{member, union, difference, lowest}
 use Rattle.sets.proofs.Bits.{member_union, member_union_right, member_difference, sets_extensional, difference_le, union_lt, lowest_member}
@@ -16,32 +18,39 @@ use Rattle.fresh.specs.Marks.{done_in, new_at, NextBetween, LastBelow, Next, Pas
 
 -- ---- the next variable
 
--- Going down by one: what was passed does not wait, and nor does the one here.
-pub waits_not_more : (bound : ℕ) (asked done : List ℕ) (most x : ℕ)
-    → ((X : ℕ) → x ≤ X → X < most → member bound X ≡ true → new_at asked done X ≡ 0)
-    → (member bound (x - 1) ≡ true → new_at asked done (x - 1) ≡ 0)
-    → (X : ℕ) → x - 1 ≤ X → X < most → member bound X ≡ true → new_at asked done X ≡ 0
-waits_not_more bound asked done most x all here X m l =
-    by_lt X x
-    (λ k. subst (λ (Y : ℕ). member bound Y ≡ true → new_at asked done Y ≡ 0) (omega arith) here)
-    (λ k. all X k l)
+module _ {bound : ℕ} {asked done : List ℕ} {from variables : ℕ} (h : from ≤ variables) where
+  both_none : {r : Option Variable} → NextBetween bound asked done from variables None → LastBelow bound asked done from r → Next bound asked done variables r
+  both_none n b = record {
+    found = λ x e. let f = b.found x e in (omega (arith, h, f.0), f.1, f.2);
+    none = λ e X l q. by_lt X from (λ j. b.none e X j q) (λ j. n.none refl X j l q);
+  }
 
--- Of those below a number and those from it on: one of either, or none of both.
-pub next_above : {bound : ℕ} {asked done : List ℕ} {from variables x y : ℕ}
-    → LastBelow bound asked done from variables y → variables ≤ y → NextBetween bound asked done from variables x → Next bound asked done variables x
-next_above {from = from} b h n = record {
-  most = n.within;
-  found = n.found;
-  none = λ e X l q. by_lt X from (λ j. b.none (omega (arith, b.most)) X j q) (λ j. n.none e X j l q);
-}
+  none_below : {r : Option Variable} → LastBelow bound asked done from None → NextBetween bound asked done from variables r → Next bound asked done variables r
+  none_below b n = record {
+    found = n.found;
+    none = λ e X l q. by_lt X from (λ j. b.none refl X j q) (λ j. n.none e X j l q);
+  }
 
-pub next_below : {bound : ℕ} {asked done : List ℕ} {from variables x y : ℕ}
-    → NextBetween bound asked done from variables x → variables ≤ x → LastBelow bound asked done from variables y → Next bound asked done variables y
-next_below {from = from} n h b = record {
-  most = b.most;
-  found = b.found;
-  none = λ e X l q. by_lt X from (λ j. b.none e X j q) (λ j. n.none (omega (arith, n.within)) X j l q);
-}
+  one_above : {x : Variable} → NextBetween bound asked done from variables (Some x) → Next bound asked done variables (Some x)
+  one_above n = record { found = n.found; none = λ e. absurd (cc) }
+
+  one_below : {x : Variable} → LastBelow bound asked done from (Some x) → Next bound asked done variables (Some x)
+  one_below b = record {
+    found = λ y e. let f = b.found y e in (omega (arith, h, f.0), f.1, f.2);
+    none = λ e. absurd (cc);
+  }
+
+  -- Of those from a number on, or else of those below it: one of either, or none of both. P is what `or_else` tells of the second question.
+  pub next_up : {P : Type 0} (o r : Option Variable) → MatchOption o P (λ x. r ≡ Some x) → NextBetween bound asked done from variables o
+      → (P → LastBelow bound asked done from r) → Next bound asked done variables r
+  next_up None r m n f = both_none n (f m)
+  next_up (Some x) r m n f = subst (λ (q : Option Variable). Next bound asked done variables q) (sym m) (one_above n)
+
+  -- The other way round.
+  pub next_down : {P : Type 0} (o r : Option Variable) → MatchOption o P (λ x. r ≡ Some x) → LastBelow bound asked done from o
+      → (P → NextBetween bound asked done from variables r) → Next bound asked done variables r
+  next_down None r m b f = none_below b (f m)
+  next_down (Some x) r m b f = subst (λ (q : Option Variable). Next bound asked done variables q) (sym m) (one_below b)
 
 -- ---- the measure: what the rows lack
 

@@ -1,6 +1,8 @@
 -- The marks in the code's tables: of each node and of each variable the set of atoms that are to be fresh for it, and when they are done. Definitions alone.
 use Rattle.std.specs.Prelude.{ℕ, ◌≤◌, ◌<◌, ◌^◌, ◌≡◌, Bool, true, false, cond, List, [], length, get_or}
+use Rattle.std.specs.Prelude as std
 use Rattle.std.proofs.Math.Option.{Option, none, some}
+use Rattle.names.specs.declared.Variable.{Variable}
 use Rattle.sets.specs.Bits.{member, difference}
 use Rattle.permutation.specs.Table.{image, Permutes}
 use Rattle.problem.specs.Problem.{Node, unit_form, atom_form, abstraction_form, pair_form, application_form, suspension_form, form_at, Problem}
@@ -64,23 +66,20 @@ pub record Waits (bound : ℕ) (asked done : List ℕ) (X : ℕ) (r : Bool) : Ty
   pub found : r ≡ true → (member bound X ≡ true) × (0 < new_at asked done X)
   pub none : r ≡ false → member bound X ≡ true → new_at asked done X ≡ 0
 
--- The first variable that waits so, of those from one up to another; that other one, if there is none.
-pub record NextBetween (bound : ℕ) (asked done : List ℕ) (least most r : ℕ) : Type 0 where
-  pub within : r ≤ most
-  pub found : r < most → (member bound r ≡ true) × (0 < new_at asked done r)
-  pub none : r ≡ most → (X : ℕ) → least ≤ X → X < most → member bound X ≡ true → new_at asked done X ≡ 0
+-- A variable that waits so, of those from one up to another; none, if none of these does.
+pub record NextBetween (bound : ℕ) (asked done : List ℕ) (least most : ℕ) (r : std.Option Variable) : Type 0 where
+  pub found : (x : Variable) → r ≡ std.Some x → (x.0 < most) × (member bound x.0 ≡ true) × (0 < new_at asked done x.0)
+  pub none : r ≡ std.None → (X : ℕ) → least ≤ X → X < most → member bound X ≡ true → new_at asked done X ≡ 0
 
--- A variable that waits so; the number after the last variable, if none of those below one does.
-pub record LastBelow (bound : ℕ) (asked done : List ℕ) (from variables r : ℕ) : Type 0 where
-  pub most : r ≤ variables
-  pub found : r < variables → (member bound r ≡ true) × (0 < new_at asked done r)
-  pub none : r ≡ variables → (X : ℕ) → X < from → member bound X ≡ true → new_at asked done X ≡ 0
+-- A variable that waits so, of those below one; none, if none of these does.
+pub record LastBelow (bound : ℕ) (asked done : List ℕ) (from : ℕ) (r : std.Option Variable) : Type 0 where
+  pub found : (x : Variable) → r ≡ std.Some x → (x.0 < from) × (member bound x.0 ≡ true) × (0 < new_at asked done x.0)
+  pub none : r ≡ std.None → (X : ℕ) → X < from → member bound X ≡ true → new_at asked done X ≡ 0
 
--- A variable that waits so; the number after the last variable, if there is none.
-pub record Next (bound : ℕ) (asked done : List ℕ) (variables r : ℕ) : Type 0 where
-  pub most : r ≤ variables
-  pub found : r < variables → (member bound r ≡ true) × (0 < new_at asked done r)
-  pub none : r ≡ variables → (X : ℕ) → X < variables → member bound X ≡ true → new_at asked done X ≡ 0
+-- A variable that waits so; none, if no variable does.
+pub record Next (bound : ℕ) (asked done : List ℕ) (variables : ℕ) (r : std.Option Variable) : Type 0 where
+  pub found : (x : Variable) → r ≡ std.Some x → (x.0 < variables) × (member bound x.0 ≡ true) × (0 < new_at asked done x.0)
+  pub none : r ≡ std.None → (X : ℕ) → X < variables → member bound X ≡ true → new_at asked done X ≡ 0
 
 -- A bound variable's new atoms were passed on to its value, each as the atom that the value's images send to it: the demands and the marks before and
 -- after. What is demanded of nodes stays.

@@ -2,11 +2,14 @@
 -- ends with.
 use Prim.Native.Nat.{ℕ, zero, suc, ◌+◌, ◌-◌, ◌≤◌, ◌<◌}
 use native.Mathlib.Omega.{arith}
-use mathlib.Core.Path.{◌≡◌, refl, sym, ◌∙◌, ap}
+use mathlib.Core.Path.{◌≡◌, refl, ◌∙◌, ap}
 use mathlib.Core.Logic.{◌≢◌}
 use mathlib.Core.List.{List, [], ◌∷◌, ◌++◌}
 use Rattle.sets.specs.Bits.{member}
-use Rattle.numbers.specs.declared.Given.{Given}
+use Rattle.std.specs.Prelude.{Result, Ok, Err}
+use Rattle.numbers.specs.declared.Reason.{Reason}
+use Rattle.numbers.specs.declared.Reason.TheVariants.{Limit}
+use Rattle.numbers.specs.declared.Refusal.{Refusal as GivenRefusal}
 use Rattle.problem.specs.Held.{problem_of}
 use Rattle.problem.specs.Problem.{Problem}
 use Rattle.problem.specs.declared.Counts.{Counts}
@@ -14,28 +17,21 @@ use Rattle.problem.proofs.Counted.{all_atoms, all_variables, all_nodes}
 use Rattle.run.specs.Meaning.{Side, Binding}
 use Rattle.run.specs.Run.{Equation, Subject, Demand, Ground, Refusal, Step, refuses, goes_on, step, End, limit, finished, pending}
 use Rattle.run.specs.Run.{bindings, demands, next, run, equations_from}
-use Rattle.run.specs.Answer.{refusal_number}
 use Rattle.room.specs.Stacks.{at_start, after_step}
 use Rattle.stack.specs.Stack.{Stack, stack_of, equation_of, Topped, Started}
 use Rattle.stack.specs.declared.Pending.{Pending}
-use Rattle.stack.proofs.Stack.{stack_of_none, length_stack_of}
+use Rattle.stack.proofs.Laws.{stack_of_none, length_stack_of}
 use Rattle.bindings.specs.Bindings.{Bindings, bindings_of}
 use Rattle.demands.specs.Demands.{sheet, demands_cleared}
-use Rattle.demands.proofs.Demands.{raised_none}
+use Rattle.demands.proofs.Laws.{raised_none}
 use Rattle.side.specs.Side.{ground_in}
 use Rattle.perform.specs.declared.State.{State}
-use Rattle.perform.specs.declared.Stepped.{Stepped}
-use Rattle.perform.specs.declared.Outcome.TheVariants.{Goes, Refuses}
-use Rattle.perform.specs.Performed.{StepTables, GoneOn, Performed}
+use Rattle.perform.specs.Performed.{StepTables, reason_of, Performed}
 use Rattle.quick.specs.Going.{FromStart, end_of, Going}
 use Rattle.quick.proofs.Underway.{few_wait}
 use Rattle.machine.specs.Step.{Footing, Present, step_here}
 use Rattle.machine.specs.Run.{Ready, Founded, Began, RunEnded}
 use Rattle.machine.specs.declared.verdict.Ran.{Ran}
-
--- What a run that ends there gives back.
-abbrev ran : Given → ℕ → State → Ran
-ran v steps state = record { verdict = v; steps = steps; bound = state.bound; count = state.count }
 
 -- ---- the definition's run
 
@@ -93,19 +89,28 @@ module _ {s : List ℕ} {places : List ℕ} {variables_of_nodes : List ℕ} {A w
       omega (arith, few, length_stack_of A t.stack state.waiting)
 
   -- No equation is left.
-  pub going_done : {v : Given} → state.waiting ≡ 0 → v ≡ record { number = 0; place = 0 } → RunEnded s A L t (ran v steps state) end
-  going_done z given =
+  pub going_done : state.waiting ≡ 0
+      → RunEnded s A L t (Ok (record { steps = steps; bound = state.bound; count = state.count })) end
+  going_done z =
       let is_finished : end ≡ finished (L - steps) bs h.demanded =
       h.same ∙ rw (z, stack_of_none A t.stack) (run_none ground (L - steps) bs h.demanded) in
-      rw is_finished (record { verdict = given; taken = omega (arith, h.within); made = refl; keeps = h.keeps; raised = h.raised })
+      rw is_finished
+      (record {
+        ran = record { steps = steps; bound = state.bound; count = state.count };
+        verdict = refl;
+        taken = omega (arith, h.within);
+        made = refl;
+        keeps = h.keeps;
+        raised = h.raised;
+      })
 
   module _ {e : Pending} (some : state.waiting ≢ 0) (topped : Topped t.stack (state.waiting - 1) e) where
     abbrev es : List Equation
     es = stack_of A t.stack (state.waiting - 1)
 
-    -- A number given for that equation.
-    abbrev of_top : ℕ → Given
-    of_top n = record { number = n; place = e.number }
+    -- What is given back for that equation.
+    abbrev of_top : Reason → Result Ran GivenRefusal
+    of_top reason = Err (record { reason = reason; place = e.number })
 
     stack_top : stack_of A t.stack state.waiting ≡ equation_of A e ∷ es
     stack_top =
@@ -120,12 +125,12 @@ module _ {s : List ℕ} {places : List ℕ} {variables_of_nodes : List ℕ} {A w
         record { footing = footing; keeps = h.keeps; first = first; circleless = h.circleless; demanded = h.demanded; reached = top_reached }
 
     -- "with L taken and an equation left, 8"
-    pub going_limit : {v : Given} → L ≤ steps → v ≡ of_top 8 → RunEnded s A L t (ran v steps (below state)) end
+    pub going_limit : L ≤ steps → RunEnded s A L t (of_top Limit) end
     unfolding equation_of
-    going_limit l given =
+    going_limit l =
         let none_left : L - steps ≡ 0 = omega arith in
         let is_limit : end ≡ limit e.number = h.same ∙ rw (none_left, stack_top) (run_limit ground (equation_of A e) es bs h.demanded) in
-        rw is_limit given
+        rw is_limit refl
 
     module _ (less : steps < L) where
       abbrev told_step : Step
@@ -141,20 +146,19 @@ module _ {s : List ℕ} {places : List ℕ} {variables_of_nodes : List ℕ} {A w
           let one_less : L - steps ≡ suc (L - (steps + 1)) = omega arith in
           h.same ∙ rw (one_less, stack_top) (run_step ground (L - (steps + 1)) (equation_of A e) es bs h.demanded ∙ ap After q)
 
-      module _ (later : StepTables) (z : Stepped) where
-        abbrev Left : Step → Type 0
-        Left x = Performed s A e.number t (below state) later z x
+      module _ (later : StepTables) where
+        abbrev Left : Result State Reason → Step → Type 0
+        Left z x = Performed s A e.number t (below state) later z x
 
         -- A refusing step ends the run.
-        refused_so : (x : Step) → Left x → (n : ℕ) → z.outcome ≡ Refuses n → (why : Refusal) × (x ≡ refuses why) × (n ≡ refusal_number why)
-        refused_so (refuses why) p n o = (why, refl, let q = sym o ∙ p.outcome in cc)
-        refused_so (goes_on qs b d) p n o = absurd (let q = sym o ∙ p.outcome in let y : ◌≡◌ {A = ℕ} 0 1 = cc in omega arith)
+        refused_so : (why : Reason) (x : Step) → Left (Err why) x → (is : Refusal) × (x ≡ refuses is) × (why ≡ reason_of is)
+        refused_so why (refuses is) p = (is, refl, let q = p.outcome in cc)
+        refused_so why (goes_on qs b d) p = absurd (let q = p.outcome in let y : ◌≡◌ {A = ℕ} 0 1 = cc in omega arith)
 
-        pub going_refused : {n : ℕ} {v : Given} → Left told_step → z.outcome ≡ Refuses n → v ≡ of_top n
-            → RunEnded s A L later (ran v (steps + 1) z.state) end
-        going_refused {n} p o given =
-            let (why, q, is_number) = refused_so told_step p n o in
-            rw (onward (refuses why) q) (given ∙ ap of_top is_number)
+        pub going_refused : (why : Reason) → Left (Err why) told_step → RunEnded s A L later (of_top why) end
+        going_refused why p =
+            let (is, q, same) = refused_so why told_step p in
+            rw (onward (refuses is) q) (ap of_top same)
 
         -- Another step goes on.
         reached_next : (qs : List (Side × Side)) (b : List (ℕ × Side)) (d : List (ℕ × Subject)) → told_step ≡ goes_on qs b d
@@ -162,10 +166,12 @@ module _ {s : List ℕ} {places : List ℕ} {variables_of_nodes : List ℕ} {A w
         unfolding equation_of
         reached_next qs b d q = after_step top_reached q
 
-        goes_on_so : (qs : List (Side × Side)) (b : List (ℕ × Side)) (d : List (ℕ × Subject)) → told_step ≡ goes_on qs b d
-            → GoneOn s A e.number qs b d t (below state) later z → Going s A w L first later (steps + 1) z.state
-        goes_on_so qs b d q p =
-            record {
+        goes : (next : State) (x : Step) → told_step ≡ x → Left (Ok next) x → Going s A w L first later (steps + 1) next
+        goes next (refuses why) q p = absurd (let q = p.outcome in let y : ◌≡◌ {A = ℕ} 0 1 = cc in omega arith)
+        goes next (goes_on qs b d) q p =
+            let same : next ≡ p.next = let q = p.outcome in cc in
+            rw same
+            (record {
               circleless = h.circleless;
               keeps = p.keeps;
               demanded = h.demanded ++ demands e.number d;
@@ -173,14 +179,10 @@ module _ {s : List ℕ} {places : List ℕ} {variables_of_nodes : List ℕ} {A w
               same = rw (p.stack, p.made) (onward (goes_on qs b d) q);
               raised = p.raised h.demanded h.raised;
               within = omega arith;
-            }
+            })
 
-        goes : (x : Step) → told_step ≡ x → Left x → z.outcome ≡ Goes → Going s A w L first later (steps + 1) z.state
-        goes (refuses why) q p o = absurd (let q = sym o ∙ p.outcome in let y : ◌≡◌ {A = ℕ} 0 1 = cc in omega arith)
-        goes (goes_on qs b d) q p o = goes_on_so qs b d q p
-
-        pub going_next : Left told_step → z.outcome ≡ Goes → Going s A w L first later (steps + 1) z.state
-        going_next p o = goes told_step refl p o
+        pub going_next : (next : State) → Left (Ok next) told_step → Going s A w L first later (steps + 1) next
+        going_next next p = goes next told_step refl p
 
 -- ---- where the loop begins
 

@@ -24,9 +24,9 @@ use Rattle.room.specs.Stacks.{after_step}
 use Rattle.room.proofs.Room.{reaches_room}
 use Rattle.stack.specs.Stack.{Stack, stack_of, equation_of}
 use Rattle.stack.specs.declared.Pending.{Pending}
-use Rattle.stack.proofs.Stack.{length_stack_of}
+use Rattle.stack.proofs.Laws.{length_stack_of}
 use Rattle.bindings.specs.Bindings.{Bindings, binding_at, bindings_of, Keeps, NodesThere}
-use Rattle.bindings.proofs.Bindings.{value_of_set}
+use Rattle.bindings.proofs.Laws.{value_of_set}
 use Rattle.occurs.specs.Reached.{Rooted}
 use Rattle.occurs.proofs.Bindings.{rooted}
 use Rattle.occurs.proofs.Meaning.{occurs_meaning}

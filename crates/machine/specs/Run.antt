@@ -1,6 +1,7 @@
 -- The run in the tables against the definition's run (run, specs/Run.antt). Definitions alone; their laws are in proofs/.
-use Rattle.std.specs.Prelude.{ℕ, ◌+◌, ◌≡◌, List, [], length}
-use Rattle.numbers.specs.declared.Given.{Given}
+use Rattle.std.specs.Prelude.{ℕ, ◌+◌, ◌≡◌, List, [], length, Result, Ok, Err}
+use Rattle.numbers.specs.declared.Reason.TheVariants.{Limit}
+use Rattle.numbers.specs.declared.Refusal.{Refusal}
 use Rattle.problem.specs.Problem.{Problem}
 use Rattle.problem.specs.Held.{problem_of}
 use Rattle.problem.specs.Look.{Standing}
@@ -9,12 +10,11 @@ use Rattle.problem.specs.declared.Counts.{Counts}
 use Rattle.run.specs.Meaning.{Binding}
 use Rattle.run.specs.Run.{Demand, End, limit, refused, finished, equations_from}
 use Rattle.run.specs.Circle.{Circleless}
-use Rattle.run.specs.Answer.{refusal_number}
 use Rattle.stack.specs.Stack.{Stack, stack_of}
 use Rattle.bindings.specs.Bindings.{Bindings, bindings_of, Keeps}
 use Rattle.demands.specs.Demands.{Sheet, Raised}
 use Rattle.occurs.specs.Reached.{FilledBelow}
-use Rattle.perform.specs.Performed.{StepTables}
+use Rattle.perform.specs.Performed.{StepTables, reason_of}
 use Rattle.perform.specs.declared.State.{State}
 use Rattle.machine.specs.Step.{Footing}
 use Rattle.machine.specs.declared.verdict.Ran.{Ran}
@@ -38,22 +38,23 @@ pub record Began (s : List ℕ) (places : List ℕ) (variables_of_nodes : List �
   pub stack : stack_of A waiting start.waiting ≡ equations_from (problem_of s).atoms 0 (problem_of s).equations
   pub raised : Raised (length (problem_of s).nodes) (problem_of s).variables [] asked
 
--- The number and place that an end has by itself: 0 where the run is finished, and what comes of it is not known yet.
-abbrev pub end_given : End → Given
-end_given (limit n) = record { number = 8; place = n }
-end_given (refused why n) = record { number = refusal_number why; place = n }
-end_given (finished k bs ds) = record { number = 0; place = 0 }
+-- What an end gives by itself: a refusal with its place, or nothing where the run is finished, and what comes of it is not known yet.
+abbrev pub end_given : End → Result Unit Refusal
+end_given (limit n) = Err (record { reason = Limit; place = n })
+end_given (refused why n) = Err (record { reason = reason_of why; place = n })
+end_given (finished k bs ds) = Ok tt
 
 -- An accepted run: the steps taken, and the bindings and the demands in the tables.
-pub record RunFinished (s : List ℕ) (A L : ℕ) (t : StepTables) (r : Ran) (k : ℕ) (bs : List Binding) (ds : List Demand) : Type 0 where
-  pub verdict : r.verdict ≡ end_given (finished k bs ds)
-  pub taken : r.steps + k ≡ L
-  pub made : bindings_of A t.bindings r.count ≡ bs
-  pub keeps : Keeps t.bindings.made r.count r.bound.0
+pub record RunFinished (s : List ℕ) (A L : ℕ) (t : StepTables) (r : Result Ran Refusal) (k : ℕ) (bs : List Binding) (ds : List Demand) : Type 0 where
+  pub ran : Ran
+  pub verdict : r ≡ Ok ran
+  pub taken : ran.steps + k ≡ L
+  pub made : bindings_of A t.bindings ran.count ≡ bs
+  pub keeps : Keeps t.bindings.made ran.count ran.bound.0
   pub raised : Raised (length (problem_of s).nodes) (problem_of s).variables ds t.sheet
 
 -- What each end of the definition's run is in code.
-abbrev pub RunEnded : List ℕ → ℕ → ℕ → StepTables → Ran → End → Type 0
-RunEnded s A L t r (limit n) = r.verdict ≡ end_given (limit n)
-RunEnded s A L t r (refused why n) = r.verdict ≡ end_given (refused why n)
+abbrev pub RunEnded : List ℕ → ℕ → ℕ → StepTables → Result Ran Refusal → End → Type 0
+RunEnded s A L t r (limit n) = r ≡ Err (record { reason = Limit; place = n })
+RunEnded s A L t r (refused why n) = r ≡ Err (record { reason = reason_of why; place = n })
 RunEnded s A L t r (finished k bs ds) = RunFinished s A L t r k bs ds

@@ -1,27 +1,20 @@
 // The run: the problem's equations wait, and steps are taken until none is left, the limit is reached or a step refuses.
-ghost use Rattle.stack.specs.Stack as pending;
-ghost use Rattle.bindings.specs.Bindings as bindings;
-ghost use Rattle.demands.specs.Demands.{sheet};
-ghost use Rattle.perform.specs.Performed.{tables_of};
+ghost use Rattle.bindings.specs.Bindings.{bindings_of};
+ghost use Rattle.perform.specs.Performed.{tables_in, SameTables};
 ghost use Rattle.problem.specs.Held.{problem_of};
 ghost use Rattle.quick.specs.Going.{end_of};
 ghost use Rattle.machine.specs.Run.{Founded, Began, Ready, RunEnded};
 
 use crate::step::step;
-use bindings::{Made, Values};
-use demands::{Asked, Firsts};
-use numbers::{ACCEPTED, Given, LIMIT, give};
-use perform::{Outcome, State};
-use problem::{Counts, Places};
+use numbers::{Reason, Refusal, refuse};
+use perform::{State, Work};
+use problem::{Counts, Input};
 use sets::VariableSet;
-use stack::{Heads, Images};
 use variables::NodeVariables;
 
-// How a run ends: 0 (accepted), 8 (limit), 9 (clash), 10 (a variable inside its own value) or 11 (protected), each but the first with the number of the
-// equation. With it the steps taken, which variables are bound, and how many.
-#[derive(Clone, Copy)]
+// An accepted run: the steps taken, which variables are bound, and how many.
+#[derive(Clone, Copy, PartialEq, Eq)]
 pub struct Ran {
-    pub verdict: Given,
     pub steps: u32,
     pub bound: VariableSet,
     pub count: usize,
@@ -30,120 +23,80 @@ pub struct Ran {
 // "Take the top, if fewer than L steps have been taken", from the start on, where nothing is demanded yet. Most steps need no side to be put together, and
 // are taken where the equation lies (`quick`).
 fn go(
-    s: &[u8],
-    places: &Places,
+    input: &Input,
     node_variables: &NodeVariables,
-    heads: &mut Heads,
-    images: &mut Images,
-    made: &mut Made,
-    values: &mut Values,
-    asked: &mut Asked,
-    firsts: &mut Firsts,
+    work: &mut Work,
     atoms: usize,
     protected: VariableSet,
     start: State,
     limit: u32,
-) -> Ran
-    requires { Began s.now places.now node_variables.now atoms (pending.stack_tables heads.old images.old)
-        (bindings.binding_tables made.old values.old) (sheet asked.old firsts.old) start }
-    ensures { RunEnded s.now atoms limit
-        (tables_of (pending.stack_tables heads.new images.new)
-        (bindings.binding_tables made.new values.new)
-        (sheet asked.new firsts.new)) result
-        (end_of s.now protected.0 limit
-        (bindings.bindings_of atoms (bindings.binding_tables made.old values.old) start.count)) }
+) -> Result<Ran, Refusal>
+    requires { Began input.now.bytes.now input.now.places.now node_variables.now atoms (tables_in work.old).stack
+        (tables_in work.old).bindings (tables_in work.old).sheet start }
+    ensures same { SameTables work.old work.new }
+    ensures ended { RunEnded input.now.bytes.now atoms limit (tables_in work.new) result
+        (end_of input.now.bytes.now protected.0 limit (bindings_of atoms (tables_in work.old).bindings start.count)) }
 {
     let mut state = start;
     let mut steps: u32 = 0;
-    let v = loop {
-        let went = quick::go(
-            s, places, heads, images, made, values, asked, firsts, atoms, state, steps, limit,
-        );
+    loop {
+        let went = quick::go(input, work, atoms, state, steps, limit);
         state.waiting = went.waiting;
         steps = went.steps;
         if state.waiting == 0 {
-            break give(ACCEPTED, 0);
+            return Ok(Ran {
+                steps,
+                bound: state.bound,
+                count: state.count,
+            });
         }
         state.waiting -= 1;
-        let e = stack::top(heads, images, state.waiting);
+        let e = work.stack.top(state.waiting);
+        let place = usize::from(e.number);
         if limit <= steps {
-            break give(LIMIT, e.number as usize);
+            return Err(refuse(Reason::Limit, place));
         }
-        let z = step(
-            s,
-            places,
-            node_variables,
-            heads,
-            images,
-            made,
-            values,
-            asked,
-            firsts,
-            atoms,
-            protected,
-            state,
-            e,
-        );
+        // By a match: with map_err and ? it was tried, and at the exit of ? what the closure promises is out of the answers' reach.
+        state = match step(input, node_variables, work, atoms, protected, state, e) {
+            Ok(next) => next,
+            Err(reason) => return Err(refuse(reason, place)),
+        };
         steps += 1;
-        state = z.state;
-        let outcome = z.outcome;
-        if let Outcome::Refuses(number) = outcome {
-            break give(number, e.number as usize);
-        }
-    };
-    Ran {
-        verdict: v,
-        steps: steps,
-        bound: VariableSet(state.bound.0),
-        count: state.count,
     }
 }
 
 // The run of the problem that the input is, from the bindings that the tables have, whoever made them and in whatever order, with the variables of a set
-// protected and at most the problem's limit of steps. The other tables may hold anything.
+// protected and at most the problem's limit of steps: an accepted one, or why it is refused: at the limit, for a clash, a variable inside its own value or a
+// protected one, each with the number of the equation. The other tables may hold anything.
 pub fn run(
-    s: &[u8],
+    input: &Input,
     c: Counts,
-    places: &Places,
     node_variables: &NodeVariables,
-    heads: &mut Heads,
-    images: &mut Images,
-    made: &mut Made,
-    values: &mut Values,
-    asked: &mut Asked,
-    firsts: &mut Firsts,
+    work: &mut Work,
     protected: VariableSet,
     bound: VariableSet,
     count: usize,
-) -> Ran
-    requires ready { Ready s.now places.now node_variables.now c }
-    requires founded { Founded (problem_of s.now) (bindings.binding_tables made.old values.old) count bound.0 }
-    ensures { RunEnded s.now c.atoms c.limit
-        (tables_of (pending.stack_tables heads.new images.new)
-        (bindings.binding_tables made.new values.new)
-        (sheet asked.new firsts.new)) result
-        (end_of s.now protected.0 c.limit
-        (bindings.bindings_of c.atoms (bindings.binding_tables made.old values.old) count)) }
+) -> Result<Ran, Refusal>
+    requires ready { Ready input.now.bytes.now input.now.places.now node_variables.now c }
+    requires founded { Founded (problem_of input.now.bytes.now) (tables_in work.old).bindings count bound.0 }
+    ensures same { SameTables work.old work.new }
+    ensures ended { RunEnded input.now.bytes.now c.atoms c.limit (tables_in work.new) result
+        (end_of input.now.bytes.now protected.0 c.limit (bindings_of c.atoms (tables_in work.old).bindings count)) }
 {
-    let equations = c.equations as usize;
-    demands::clear(asked, c.nodes as usize, c.variables as usize);
-    stack::start(s, places, heads, images, equations);
+    let equations = usize::from(c.equations);
+    let asked = &mut *work.demands.asked;
+    demands::clear(asked, usize::from(c.nodes), usize::from(c.variables));
+    work.stack.start(input, equations);
     let start = State {
         waiting: equations,
-        bound: bound,
-        count: count,
+        bound,
+        count,
     };
     go(
-        s,
-        places,
+        input,
         node_variables,
-        heads,
-        images,
-        made,
-        values,
-        asked,
-        firsts,
-        c.atoms as usize,
+        work,
+        usize::from(c.atoms),
         protected,
         start,
         c.limit,

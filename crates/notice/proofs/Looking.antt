@@ -1,26 +1,28 @@
 -- Bytes looked at one by one.
-use Prim.Native.Nat.{ℕ, ◌+◌, ◌≤◌, ◌<◌}
+use Prim.Native.Nat.{ℕ, ◌+◌, ◌≤◌, ◌<◌, min}
+use native.Mathlib.Decide.{ℕ_discrete}
 use native.Mathlib.Numerals.{add-one}
 use native.Mathlib.Omega.{arith}
-use mathlib.Core.Path.{◌≡◌, refl, sym}
-use mathlib.Core.Logic.{◌≢◌}
+use mathlib.Core.Path.{◌≡◌, refl, sym, ap}
+use mathlib.Core.Logic.{by_cases}
 use mathlib.Core.Bool.{Bool, true, false, ◌||◌}
 use mathlib.Core.List.{List, [], ◌∷◌}
-use borrow.Author.Tests.{eq-eqb, ne_eqb}
+use borrow.Author.Tests.{eq-eqb, ne_eqb, eqb-true}
+use lib.Dec.{eqb}
 use lib.ListN.{length, get_or, take, drop, drop_of_length-le}
-use lib.Seq.{drop-cons, take_all}
+use lib.Seq.{drop-cons}
+use Rattle.std.specs.List.{list_any}
+use Rattle.std.proofs.Math.Nat.{min_comm}
+use Rattle.std.proofs.lemmas.List.{take_min}
 use Rattle.sets.specs.Bits.{among}
 use Rattle.notice.specs.Notices.{plain, in_comment, looks, is_text}
 
-module _ (b : ℕ) (s : List ℕ) (i : ℕ) where
-  pub among_end : length s ≤ i → among b (drop i s) ≡ false
-  among_end h = rw (drop_of_length-le s h)
-
-  pub among_here : i < length s → get_or s i 0 ≡ b → among b (drop i s) ≡ true
-  among_here h e = rw (drop-cons s i 0 h, eq-eqb b (get_or s i 0) (sym e))
-
-  pub among_on : i < length s → get_or s i 0 ≢ b → among b (drop i s) ≡ among b (drop (i + 1) s)
-  among_on h e = rw (add-one i, drop-cons s i 0 h, ne_eqb b (get_or s i 0) (λ f. e (sym f)))
+-- The library's test whether a byte is among others.
+pub any_among : (b : ℕ) (s : List ℕ) → list_any (λ y. eqb y b) s ≡ among b s
+any_among b [] = refl
+any_among b (a ∷ s) =
+    by_cases (ℕ_discrete a b) (λ e. rw (eq-eqb a b e, eq-eqb b a (sym e)))
+    (λ d. rw (ne_eqb a b d, ne_eqb b a (λ e. d (sym e))) (any_among b s))
 
 module _ (comment : Bool) (s : List ℕ) (i : ℕ) where
   pub looks_end : length s ≤ i → looks comment (drop i s) ≡ true
@@ -38,15 +40,13 @@ module _ (comment : Bool) (s : List ℕ) (i : ℕ) where
     unfolding looks
     looks_on e f = rw (add-one i, drop-cons s i 0 h, e, f)
 
-pub empty_no : (s : List ℕ) → length s ≡ 0 → false ≡ is_text s
+pub empty_no : (s : List ℕ) → true ≡ eqb (length s) 0 → false ≡ is_text s
 unfolding is_text
 empty_no [] e = refl
-empty_no (b ∷ s) e = absurd (omega (arith, e))
+empty_no (b ∷ s) e = absurd (omega (arith, eqb-true (length (b ∷ s)) 0 (sym e)))
 
-pub some_text : (s : List ℕ) → (length s ≡ 0 → ⊥) → looks false (take 64 s) ≡ is_text s
+-- The first bytes, 64 or all where there are fewer.
+pub some_text : (s : List ℕ) (n : ℕ) → n ≡ min (length s) 64 → false ≡ eqb (length s) 0 → looks false (take n s) ≡ is_text s
 unfolding is_text
-some_text [] n = absurd (n refl)
-some_text (b ∷ s) n = refl
-
-pub short_text : (s : List ℕ) → length s < 64 → (length s ≡ 0 → ⊥) → looks false s ≡ is_text s
-short_text s h n = let k : length s ≤ 64 = omega arith in rw (take_all 64 s k) at (some_text s n)
+some_text [] n e h = cc
+some_text (b ∷ s) n e h = ap (looks false) (rw (e, min_comm (length (b ∷ s)) 64) (take_min 64 (b ∷ s)))

@@ -9,64 +9,44 @@ ghost use Rattle.notice.specs.Notices.{plain, in_comment, looks, is_text, no_pro
 ghost use Rattle.notice.specs.Told.{said, cut_said, Tells};
 
 use descriptor::Answer;
+use numbers::Given;
 use std::fmt::InlineText;
 use std::io;
 use std::io::Write;
 use std::time::Clock;
 
-// What there is to say of an answer: text means that a problem was refused which looks like hexadecimal text.
-#[derive(Clone, Copy)]
+// What there is to say of an answer: text means that a problem was refused which looks like hexadecimal text. Nothing is a word of the definition notice_of,
+// which has three.
+#[derive(Clone, Copy, PartialEq, Eq)]
 pub enum Notice {
     Nothing,
     Refused,
     Text,
 }
 
-fn is_in(set: &[u8], byte: u8) -> bool
-    ensures { result ≡ among byte set.now }
-{
-    let mut i: usize = 0;
-    while i < set.len() {
-        if set[i] == byte {
-            return true;
-        }
-        i += 1;
-    }
-    false
-}
-
 // Whether what comes after the byte stands in a comment.
 fn in_comment(comment: bool, byte: u8) -> bool
     ensures { result ≡ in_comment comment byte }
 {
-    if comment {
-        return byte != b'\n';
-    }
-    byte == b'#'
+    if comment { byte != b'\n' } else { byte == b'#' }
 }
 
 // Whether the byte may stand in hexadecimal text.
 fn suits(comment: bool, byte: u8) -> bool
     ensures { result ≡ (comment || among byte plain) }
 {
-    if comment {
-        return true;
-    }
-    is_in(b"0123456789abcdefABCDEF \t\r\n#", byte)
+    comment || b"0123456789abcdefABCDEF \t\r\n#".contains(&byte)
 }
 
 fn looks_like_text(bytes: &[u8]) -> bool
     ensures { result ≡ looks false bytes.now }
 {
     let mut comment = false;
-    let mut i: usize = 0;
-    while i < bytes.len() {
-        let byte = bytes[i];
+    for &byte in bytes {
         if !suits(comment, byte) {
             return false;
         }
         comment = in_comment(comment, byte);
-        i += 1;
     }
     true
 }
@@ -75,38 +55,25 @@ fn looks_like_text(bytes: &[u8]) -> bool
 fn is_text(input: &[u8]) -> bool
     ensures { result ≡ is_text input.now }
 {
-    if input.len() == 0 {
-        return false;
-    }
-    if input.len() < 64 {
-        return looks_like_text(input);
-    }
-    looks_like_text(&input[..64])
+    !input.is_empty() && looks_like_text(&input[..input.len().min(64)])
 }
 
-// Whether a problem that is no problem from its first byte on is refused so.
-fn is_no_problem(number: u8, place: usize) -> bool
-    ensures { result ≡ no_problem number place }
+// Whether a problem that is no problem from its first byte on is refused so. Of any number and place, so that 2 and 3 stand here as numbers.
+fn is_no_problem(given: Given) -> bool
+    ensures { result ≡ no_problem given.number given.place }
 {
-    if place != 0 {
-        return false;
-    }
-    if number == 2 {
-        return true;
-    }
-    number == 3
+    given.place == 0 && matches!(given.number, 2 | 3)
 }
 
-pub fn of(number: u8, place: usize, input: &[u8]) -> Notice
-    ensures { result ≡ notice_of number place input.now }
+// Of any number and place, also such as the table has not.
+#[tactic(auto, unfolding(crate::specs::Notices::notice_of))]
+pub fn of(given: Given, input: &[u8]) -> Notice
+    ensures { result ≡ notice_of given.number given.place input.now }
 {
-    if number == 0 {
+    if given.number == 0 {
         return Notice::Nothing;
     }
-    if !is_no_problem(number, place) {
-        return Notice::Refused;
-    }
-    if is_text(input) {
+    if is_no_problem(given) && is_text(input) {
         return Notice::Text;
     }
     Notice::Refused
@@ -119,10 +86,10 @@ pub fn tell<W: Write, C: Clock>(errors: &mut W, clock: &C, notice: Notice)
     match notice {
         Notice::Nothing => {}
         Notice::Refused => {
-            outlet::put(errors, clock, b"refused\n");
+            let _ = outlet::put(errors, clock, b"refused\n");
         }
         Notice::Text => {
-            outlet::put(errors, clock, b"refused\ntext\n");
+            let _ = outlet::put(errors, clock, b"refused\ntext\n");
         }
     }
 }
@@ -131,7 +98,7 @@ pub fn tell<W: Write, C: Clock>(errors: &mut W, clock: &C, notice: Notice)
 pub fn cut<W: Write, C: Clock>(errors: &mut W, clock: &C)
     ensures { Tells (W.contents errors.old) (W.contents errors.new) cut_said }
 {
-    outlet::put(errors, clock, b"cut\n");
+    let _ = outlet::put(errors, clock, b"cut\n");
 }
 
 // The system's words for an error, without the number that the library puts behind them.
@@ -142,13 +109,13 @@ fn words_of(told: &str) -> &str {
     }
 }
 
-// Says what failed and why.
+// Says what failed and why. The two below have a name each, so that each text stands once: what they have in common is here.
 fn fail<W: Write, C: Clock>(errors: &mut W, clock: &C, what: &[u8], error: i32) {
     let told = InlineText::<256>::of(io::Error::from_raw_os_error(error));
-    outlet::put(errors, clock, what);
-    outlet::put(errors, clock, b": ");
-    outlet::put(errors, clock, words_of(told.as_str()).as_bytes());
-    outlet::put(errors, clock, b"\n");
+    let _ = outlet::put(errors, clock, what);
+    let _ = outlet::put(errors, clock, b": ");
+    let _ = outlet::put(errors, clock, words_of(told.as_str()).as_bytes());
+    let _ = outlet::put(errors, clock, b"\n");
 }
 
 // Says why the read failed that gave this answer.
@@ -157,7 +124,7 @@ pub fn unreadable<W: Write, C: Clock>(errors: &mut W, clock: &C, answer: Answer)
         errors,
         clock,
         b"standard input cannot be read",
-        descriptor::error(answer),
+        answer.error(),
     );
 }
 
@@ -167,6 +134,6 @@ pub fn unwritable<W: Write, C: Clock>(errors: &mut W, clock: &C, answer: Answer)
         errors,
         clock,
         b"standard output cannot be written",
-        descriptor::error(answer),
+        answer.error(),
     );
 }

@@ -11,7 +11,7 @@ use borrow.Author.Tests.{eq-eqb}
 use Rattle.sets.specs.Bits.{among}
 use Rattle.run.specs.Meaning.{Binding}
 use Rattle.bindings.specs.Bindings.{Bindings, order_in, binding_at, bindings_of, Keeps}
-use Rattle.bindings.proofs.Bindings.{value_of_set}
+use Rattle.bindings.proofs.Laws.{value_of_set}
 use Rattle.occurs.specs.Reached.{Rooted}
 
 or_true : (a b : Bool) → b ≡ true → a || b ≡ true

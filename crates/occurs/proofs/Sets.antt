@@ -23,8 +23,6 @@ use Rattle.sets.proofs.Bits.{
   disjoint_apart,
   lowest_member,
   lowest_lt,
-  removed_le,
-  intersection_le,
   not_empty,
   count_removed_lt,
 }
@@ -79,16 +77,14 @@ module _ {p : Problem} (r : Readable p) (table : List ℕ) where
 
 -- `waiting` are the bound variables that were not looked through, `reach` what is reached so far.
 pub record Looking (bound : ℕ) (made : List (List ℕ)) (variables_of_nodes : List ℕ) (start waiting reach : ℕ) : Type 0 where
-  pub few : waiting < 2 ^ 64
   pub within : (Y : ℕ) → member waiting Y ≡ true → member bound Y ≡ true
   pub holds : (X : ℕ) → member start X ≡ true → member reach X ≡ true
   pub looked : (X Y : ℕ) → member bound Y ≡ true → member waiting Y ≡ false → member (behind made variables_of_nodes Y) X ≡ true → member reach X ≡ true
   pub reached : (X : ℕ) → member reach X ≡ true → VariableReached bound made variables_of_nodes start X
 
 module _ {bound : ℕ} {made : List (List ℕ)} (variables_of_nodes : List ℕ) {start : ℕ} where
-  pub looking_none : bound < 2 ^ 64 → Looking bound made variables_of_nodes start bound start
-  looking_none h = record {
-    few = h;
+  pub looking_none : Looking bound made variables_of_nodes start bound start
+  looking_none = record {
     within = λ Y m. m;
     holds = λ X m. m;
     looked = λ X Y m q. apart m q;
@@ -97,17 +93,14 @@ module _ {bound : ℕ} {made : List (List ℕ)} (variables_of_nodes : List ℕ) 
 
   module _ {waiting reach : ℕ} (l : Looking bound made variables_of_nodes start waiting reach) where
     -- A member of both: it is reached, and was not looked through.
-    module _ (unseen x : ℕ) (o : unseen ≡ intersection waiting reach) (z : eqb unseen 0 ≡ false) (q : x ≡ lowest 64 unseen) where
-      few_unseen : unseen < 2 ^ 64
-      few_unseen = omega (arith, l.few, intersection_le waiting reach)
-
+    module _ (unseen x : ℕ) (few : unseen < 2 ^ 64) (o : unseen ≡ intersection waiting reach) (z : eqb unseen 0 ≡ false) (q : x ≡ lowest 64 unseen) where
       met : (member waiting x ≡ true) × (member reach x ≡ true)
       met =
-          let m : member unseen x ≡ true = rw q (lowest_member 64 unseen (not_empty unseen z) few_unseen) in
+          let m : member unseen x ≡ true = rw q (lowest_member 64 unseen (not_empty unseen z) few) in
           both (member waiting x) (member reach x) (sym (member_intersection waiting reach x) ∙ (rw o at m))
 
       pub unseen_small : x < 64
-      unseen_small = rw q (lowest_lt 64 unseen (not_empty unseen z) few_unseen)
+      unseen_small = rw q (lowest_lt 64 unseen (not_empty unseen z) few)
 
       pub unseen_bound : member bound x ≡ true
       unseen_bound = l.within x met.0
@@ -117,7 +110,6 @@ module _ {bound : ℕ} {made : List (List ℕ)} (variables_of_nodes : List ℕ) 
 
       pub looking_more : (w : ℕ) → w ≡ behind made variables_of_nodes x → Looking bound made variables_of_nodes start (removed waiting x) (union reach w)
       looking_more w e = record {
-        few = omega (arith, removed_le waiting x, l.few);
         within = λ Y m. by_eq Y x (λ k. rw k unseen_bound) (λ d. l.within Y (sym (member_removed_other waiting x Y d) ∙ m));
         holds = λ X m. member_union_left reach w X (l.holds X m);
         looked = λ X Y b m k.

@@ -6,48 +6,48 @@ ghost use Rattle.std.specs.Prelude.{◌<◌, get_or};
 ghost use Rattle.bindings.specs.Bindings.{NodesThere};
 ghost use Rattle.occurs.specs.Reached.{Closure, OccursAnswered};
 
-use bindings::Made;
+use bindings::Bindings;
 use names::{NodeId, Variable};
 use sets::VariableSet;
 use variables::NodeVariables;
 
-// The variables that are reached from a node through bindings: each bound variable is looked through at most once.
-fn reaches(
-    node_variables: &NodeVariables,
-    made: &Made,
-    bound: VariableSet,
-    from: NodeId,
-) -> VariableSet
-    requires { (from.0 < 512) × NodesThere 512 made.now bound.0 }
-    ensures { Closure bound.0 made.now node_variables.now
-        (get_or node_variables.now from.0 0) result.0 }
-{
-    let mut reach = variables::of_node(node_variables, from);
-    let mut waiting = bound;
-    loop {
-        let unseen = waiting.intersection(reach);
-        if unseen.is_empty() {
-            return reach;
-        }
-        let x = unseen.lowest();
-        waiting = waiting.without(x);
-        let value = bindings::node_of(made, x);
-        let found = variables::of_node(node_variables, value);
-        reach = reach.union(found);
-    }
+// What is known of variables: which occur in each node, which are bound, and to what.
+// No PartialEq: == would compare the lent tables word by word, where two are the same if what they are lent is.
+#[derive(Clone, Copy)]
+pub struct Known<'a> {
+    pub node_variables: &'a NodeVariables,
+    pub bindings: &'a Bindings<'a>,
+    pub bound: VariableSet,
+    ghost there: { NodesThere 512 bindings.now.made.now bound.0 },
 }
 
-// Whether a variable occurs in a node, looked at through all bindings.
-pub fn occurs(
-    node_variables: &NodeVariables,
-    made: &Made,
-    bound: VariableSet,
-    x: Variable,
-    node: NodeId,
-) -> bool
-    requires { (node.0 < 512) × NodesThere 512 made.now bound.0 }
-    ensures { OccursAnswered bound.0 made.now node_variables.now node.0 x.0 result }
-{
-    let reach = reaches(node_variables, made, bound, node);
-    reach.has(x)
+impl<'a> Known<'a> {
+    // The variables that are reached from a node through bindings: each bound variable is looked through at most once.
+    fn reaches(&self, from: NodeId) -> VariableSet
+        requires { from.0 < 512 }
+        ensures { Closure self.now.bound.0 self.now.bindings.now.made.now self.now.node_variables.now
+            (get_or self.now.node_variables.now from.0 0) result.0 }
+    {
+        let mut reach = variables::of_node(self.node_variables, from);
+        let mut waiting = self.bound;
+        loop {
+            let unseen = waiting.intersection(reach);
+            if unseen.is_empty() {
+                return reach;
+            }
+            let x = unseen.lowest();
+            waiting = waiting.without(x);
+            let value = self.bindings.node_of(x);
+            let found = variables::of_node(self.node_variables, value);
+            reach = reach.union(found);
+        }
+    }
+
+    // Whether a variable occurs in a node, looked at through all bindings.
+    pub fn occurs(&self, x: Variable, node: NodeId) -> bool
+        requires { node.0 < 512 }
+        ensures { OccursAnswered self.now.bound.0 self.now.bindings.now.made.now self.now.node_variables.now node.0 x.0 result }
+    {
+        self.reaches(node).has(x)
+    }
 }

@@ -4,6 +4,7 @@ use native.Mathlib.Omega.{arith}
 use mathlib.Core.Path.{◌≡◌, refl, sym, ◌∙◌, ap}
 use mathlib.Core.List.{List, [], ◌∷◌, ◌++◌, map, append-nil}
 use lib.ListN.{length}
+use Rattle.std.specs.Prelude.{Ok}
 use Rattle.names.specs.declared.NodeId.{NodeId}
 use Rattle.permutation.specs.Table.{Table, identity, after, inverted, swapped_after, disagreement}
 use Rattle.permutation.specs.Store.{table, of_table}
@@ -11,11 +12,12 @@ use Rattle.permutation.specs.declared.Permutation.{Permutation}
 use Rattle.permutation.proofs.Table.{identity_after, inverted_identity}
 use Rattle.permutation.proofs.Store.{length_table, table_after, table_inverted, table_swapped_after, members_disagreement}
 use Rattle.sets.specs.Bits.{members, of_list}
-use Rattle.sets.specs.declared.VariableSet.{VariableSet}
+use Rattle.sets.specs.declared.Set.{Set}
 use Rattle.problem.specs.Held.{problem_of}
 use Rattle.run.specs.Meaning.{Side}
-use Rattle.run.specs.Run.{Equation, of_variable, of_side, under, Refusal}
+use Rattle.run.specs.Run.{Equation, of_variable, of_side, under, Refusal, clash, inside, protection}
 use Rattle.run.specs.Answer.{refusal_number}
+use Rattle.numbers.specs.Numbers.{number_of}
 use Rattle.stack.specs.Stack.{Stack, stack_of, equation_of, Pushed}
 use Rattle.stack.specs.declared.Pending.{Pending}
 use Rattle.bindings.specs.Bindings.{Bindings, bindings_of, Keeps, Added, side_of, binding_of}
@@ -24,9 +26,7 @@ use Rattle.demands.specs.Demands.{Sheet, SideRaised, VariableRaised}
 use Rattle.side.specs.Side.{side_at, whole_of}
 use Rattle.side.proofs.Resolving.{length_whole}
 use Rattle.perform.specs.declared.State.{State}
-use Rattle.perform.specs.declared.Stepped.{Stepped}
-use Rattle.perform.specs.declared.Outcome.TheVariants.{Refuses}
-use Rattle.perform.specs.Performed.{StepTables, tables_of, gone_to, StackGrown, DisagreementRaised, BoundTo, Refused, GoneOn}
+use Rattle.perform.specs.Performed.{tables_of, gone_to, reason_of, StackGrown, DisagreementRaised, BoundTo, GoneOn}
 
 -- ---- equations
 
@@ -76,16 +76,18 @@ pub value_is : (s : List ℕ) (A : ℕ) (P : Table) (m : ℕ) (outer q images : 
 unfolding side_of
 value_is s A P m outer q images k is_outer is_images = rw (is_images, is_outer) refl
 
-pub bound_to : {A number X : ℕ} {v : Side} {before after : Bindings} {state : State} {value : Value} {more : VariableSet} {r : Stepped}
+pub bound_to : {A number X : ℕ} {v : Side} {before after : Bindings} {state : State} {value : Value} {more : Set ℕ}
     → Added before state.count state.bound.0 X value number after more.0 → side_of A value ≡ v
-    → r ≡ gone_to state.waiting more (state.count + 1) → BoundTo A number X v before state after r
-bound_to {value = value} added same gone = rw gone (record { value = value; same = same; added = added; gone = refl })
+    → BoundTo A number X v before state after (gone_to state.waiting more (state.count + 1))
+bound_to {value = value} added same = record { value = value; same = same; added = added; gone = refl }
 
 -- ---- what refuses
 
-pub refused_by : {why : Refusal} {t : StepTables} {state : State} {r : Stepped} → r ≡ record { outcome = Refuses (refusal_number why); state = state }
-    → Refused why t state t r
-refused_by e = rw e (record { outcome = refl; stays = refl; tables = refl })
+-- Its number is the document's.
+pub reason_number : (why : Refusal) → number_of (reason_of why) ≡ refusal_number why
+reason_number clash = refl
+reason_number inside = refl
+reason_number protection = refl
 
 -- ---- what goes on
 
@@ -94,49 +96,56 @@ none_bound A k made = sym (append-nil (bindings_of A made k))
 
 -- In a state whose set of bound variables and number belong to the bindings: nothing is bound, and the bindings stay.
 module _ {s : List ℕ} {A number : ℕ} {state : State} {made : Bindings} (keeps : Keeps made.made state.count state.bound.0) where
-  pub gone_pushed : {qs : List (Side × Side)} {before after : Stack} {asked : Sheet} {n : ℕ} {r : Stepped} → r ≡ gone_to n state.bound state.count
-      → StackGrown A number qs before state.waiting after n
-      → GoneOn s A number qs [] [] (tables_of before made asked) state (tables_of after made asked) r
-  gone_pushed gone pushed =
-      rw gone (record { outcome = refl; stack = pushed; made = none_bound A state.count made; keeps = keeps; raised = λ ds raised. rw append-nil raised })
+  pub gone_pushed : {qs : List (Side × Side)} {before after : Stack} {asked : Sheet} {n : ℕ} → StackGrown A number qs before state.waiting after n
+      → GoneOn s A number qs [] [] (tables_of before made asked) state (tables_of after made asked) (Ok (gone_to n state.bound state.count))
+  gone_pushed {n = n} pushed =
+      record {
+        next = gone_to n state.bound state.count;
+        outcome = refl;
+        stack = pushed;
+        made = none_bound A state.count made;
+        keeps = keeps;
+        raised = λ ds raised. rw append-nil raised;
+      }
 
-  pub gone_renamed : {u t : Side} {a : ℕ} {before after : Stack} {asked now_asked : Sheet} {r : Stepped} (b : ℕ)
-      → r ≡ gone_to (state.waiting + 1) state.bound state.count
+  pub gone_renamed : {u t : Side} {a : ℕ} {before after : Stack} {asked now_asked : Sheet} (b : ℕ)
       → StackGrown A number ((u, record { images = swapped_after a b t.images; node = t.node }) ∷ []) before state.waiting after (state.waiting + 1)
       → SideRaised a t.images t.node number asked now_asked
       → GoneOn s A number ((u, record { images = swapped_after a b t.images; node = t.node }) ∷ []) [] ((a, of_side t) ∷ [])
-      (tables_of before made asked) state (tables_of after made now_asked) r
-  gone_renamed b gone pushed h =
-      rw gone
-      (record {
+      (tables_of before made asked) state (tables_of after made now_asked) (Ok (gone_to (state.waiting + 1) state.bound state.count))
+  gone_renamed b pushed h =
+      record {
+        next = gone_to (state.waiting + 1) state.bound state.count;
         outcome = refl;
         stack = pushed;
         made = none_bound A state.count made;
         keeps = keeps;
         raised = λ ds raised. h.raised (length (problem_of s).nodes) (problem_of s).variables ds raised;
-      })
+      }
 
-  pub gone_same : {waiting : Stack} {before after : Sheet} {r : Stepped} (P Q : Table) (X : ℕ) → r ≡ gone_to state.waiting state.bound state.count
-      → DisagreementRaised P Q X number before after → length (problem_of s).nodes ≤ 512
-      → GoneOn s A number [] [] (map (λ a. (a, of_variable X)) (disagreement P Q)) (tables_of waiting made before) state (tables_of waiting made after) r
-  gone_same P Q X gone h few_nodes =
-      rw gone
-      (record {
+  pub gone_same : {waiting : Stack} {before after : Sheet} (P Q : Table) (X : ℕ) → DisagreementRaised P Q X number before after
+      → length (problem_of s).nodes ≤ 512
+      → GoneOn s A number [] [] (map (λ a. (a, of_variable X)) (disagreement P Q)) (tables_of waiting made before) state
+      (tables_of waiting made after) (Ok state)
+  gone_same P Q X h few_nodes =
+      record {
+        next = state;
         outcome = refl;
         stack = refl;
         made = none_bound A state.count made;
         keeps = keeps;
         raised = λ ds raised. h (length (problem_of s).nodes) (problem_of s).variables ds few_nodes raised;
-      })
+      }
 
 -- A binding is added.
-pub gone_bound : {s : List ℕ} {A number X : ℕ} {v : Side} {before after : Bindings} {state : State} {waiting : Stack} {asked : Sheet} {r : Stepped} → A ≤ 32
+pub gone_bound : {s : List ℕ} {A number X : ℕ} {v : Side} {before after : Bindings} {state : State} {waiting : Stack} {asked : Sheet} {r : State} → A ≤ 32
     → BoundTo A number X v before state after r
-    → GoneOn s A number [] ((X, v) ∷ []) [] (tables_of waiting before asked) state (tables_of waiting after asked) r
+    → GoneOn s A number [] ((X, v) ∷ []) [] (tables_of waiting before asked) state (tables_of waiting after asked) (Ok r)
 unfolding binding_of
 gone_bound {A = A} few h =
     rw h.gone
     (record {
+      next = gone_to _ _ _;
       outcome = refl;
       stack = refl;
       made = rw h.same at (h.added.bindings A few);

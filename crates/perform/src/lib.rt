@@ -1,146 +1,88 @@
-// Doing what the rule tells: equations are pushed, a binding is added, demands are raised. Each function has the tables that it changes; the others stay.
+// Doing what the rule tells: equations are pushed, a binding is added, demands are raised, in the tables that a run works in.
 #![tactic(auto)]
 
-ghost use Rattle.std.specs.Prelude.{◌≡◌, false, [], ◌∷◌, ℕ, ◌+◌, ◌≤◌, ◌<◌};
+ghost use Rattle.std.specs.Prelude.{◌≡◌, false, ◌≤◌, ◌<◌, ◌+◌};
 ghost use Rattle.permutation.specs.Store.{table};
 ghost use Rattle.permutation.specs.Table.{after, inverted};
 ghost use Rattle.sets.specs.Bits.{member};
 ghost use Rattle.problem.specs.Held.{problem_of};
 ghost use Rattle.problem.specs.Look.{Standing};
 ghost use Rattle.run.specs.Run.{under};
-ghost use Rattle.stack.specs.Stack as pending;
-ghost use Rattle.bindings.specs.Bindings as bindings;
+ghost use Rattle.bindings.specs.Bindings.{binding_tables, Keeps};
 ghost use Rattle.demands.specs.Demands.{sheet};
-ghost use Rattle.side.specs.Side.{side_at, whole_of};
-ghost use Rattle.perform.specs.Performed.{tables_of, gone_to, step_told, StackGrown, DisagreementRaised, BoundTo, Hangs, Fit, Performed};
+ghost use Rattle.side.specs.Side.{side_held};
+ghost use Rattle.perform.specs.Performed.{tables_in, gone_to, whole_held, step_told, SameTables, DisagreementRaised, BoundTo, Hangs, Fit, Performed};
 
-use bindings::{Made, Value, Values};
-use demands::{Asked, Firsts};
+use bindings::{Bindings, Value};
+use demands::Demands;
 use names::{NodeId, Variable};
-use numbers::{CLASH, INSIDE, PROTECTED};
+use numbers::Reason;
 use permutation::Permutation;
-use problem::Places;
+use problem::Input;
 use rule::Act;
 use sets::VariableSet;
 use side::Side;
-use stack::{Heads, Images, Pending};
+use stack::{Pending, Stack};
 
-// How far the run is: how many equations wait, which variables are bound, and how many.
-#[derive(Clone, Copy)]
+// What a run works in: the equations that wait, the bindings and the demands, each in tables that the caller lends.
+#[derive(Drop)]
+pub struct Work<'a> {
+    pub stack: Stack<'a>,
+    pub bindings: Bindings<'a>,
+    pub demands: Demands<'a>,
+}
+
+// How far the run is: how many equations wait, which variables are bound, and how many. By value from step to step, and no part of Work: a step that
+// refuses gives none back.
+#[derive(Clone, Copy, PartialEq, Eq)]
 pub struct State {
     pub waiting: usize,
     pub bound: VariableSet,
     pub count: usize,
 }
 
-// How a step ends: it goes on, or refuses with its number, 9, 10 or 11.
-#[derive(Clone, Copy)]
-pub enum Outcome {
-    Goes,
-    Refuses(u8),
+impl State {
+    // So many equations wait then, and the same variables are bound.
+    fn with(self, waiting: usize) -> State
+        ensures { result ≡ gone_to waiting self.bound self.count }
+    {
+        State { waiting, ..self }
+    }
 }
 
-// With it how far the run is then: if the step refuses, as far as before.
-#[derive(Clone, Copy)]
-pub struct Stepped {
-    pub outcome: Outcome,
-    pub state: State,
-}
-
-// One part of each side.
-fn one_part(
-    heads: &mut Heads,
-    images: &mut Images,
-    n: usize,
-    number: u8,
-    p: Permutation,
-    m: NodeId,
-    q: Permutation,
-    k: NodeId,
-)
-    requires { n < pending.most_waiting }
-    ensures { (A : ℕ) → A ≤ 32 → StackGrown A number ((side_at A p m, side_at A q k) ∷ [])
-        (pending.stack_tables heads.old images.old) n
-        (pending.stack_tables heads.new images.new) (n + 1) }
+// One part of each side, under the side's images.
+fn part(number: u8, left: Side, m: NodeId, right: Side, k: NodeId) -> Pending
+    ensures { result ≡ record { number = number; left = left.images; left_node = m; right = right.images; right_node = k } }
 {
-    let e = Pending {
-        number: number,
-        left: p,
+    Pending {
+        number,
+        left: left.images,
         left_node: m,
-        right: q,
+        right: right.images,
         right_node: k,
-    };
-    stack::push(heads, images, n, e);
-}
-
-// "Pairs: the left parts on top, then the right parts."
-fn two_parts(
-    heads: &mut Heads,
-    images: &mut Images,
-    n: usize,
-    number: u8,
-    p: Permutation,
-    l: NodeId,
-    m: NodeId,
-    q: Permutation,
-    k: NodeId,
-    o: NodeId,
-)
-    requires { n + 1 < pending.most_waiting }
-    ensures { (A : ℕ) → A ≤ 32 → StackGrown A number ((side_at A p l, side_at A q k) ∷ (side_at A p m, side_at A q o) ∷ [])
-        (pending.stack_tables heads.old images.old) n
-        (pending.stack_tables heads.new images.new) (n + 2) }
-{
-    one_part(heads, images, n, number, p, m, q, o);
-    one_part(heads, images, n + 1, number, p, l, q, k);
+    }
 }
 
 // "Suspensions of one variable X: each atom of the disagreement set is demanded fresh for X".
 fn same_variable(
-    s: &[u8],
-    places: &Places,
-    asked: &mut Asked,
-    firsts: &mut Firsts,
+    input: &Input,
+    demands: &mut Demands,
     atoms: usize,
     number: u8,
     x: Variable,
-    p: Permutation,
-    m: NodeId,
-    q: Permutation,
-    k: NodeId,
+    left: &Side,
+    right: &Side,
 )
-    requires { Standing s.now places.now × (atoms ≡ (problem_of s.now).atoms)
-        × Hangs s.now m.0 × Hangs s.now k.0 × (x.0 < 64) }
-    ensures { DisagreementRaised (whole_of s.now atoms (table atoms p) m.0)
-        (whole_of s.now atoms (table atoms q) k.0) x.0 number
-        (sheet asked.old firsts.old) (sheet asked.new firsts.new) }
+    requires { Standing input.now.bytes.now input.now.places.now × (atoms ≡ (problem_of input.now.bytes.now).atoms)
+        × Hangs input.now.bytes.now left.now.node.0 × Hangs input.now.bytes.now right.now.node.0 × (x.0 < 64) }
+    ensures same { (demands.new.asked.ghost_name ≡ demands.old.asked.ghost_name) × (demands.new.firsts.ghost_name ≡ demands.old.firsts.ghost_name) }
+    ensures raised { DisagreementRaised (whole_held input.now.bytes.now atoms left.now) (whole_held input.now.bytes.now atoms right.now) x.0 number
+        (sheet demands.old.asked.now demands.old.firsts.now) (sheet demands.new.asked.now demands.new.firsts.now) }
 {
-    let left = side::whole(s, places, atoms, p, m);
-    let right = side::whole(s, places, atoms, q, k);
-    let d = permutation::disagreement(left, right, atoms);
-    demands::raise_variable(asked, firsts, d, x, number);
-}
-
-// As many equations wait and the same variables are bound as before the step.
-fn stays(outcome: Outcome, state: State) -> Stepped
-    ensures { result ≡ record { outcome = outcome; state = state } }
-{
-    Stepped {
-        outcome: outcome,
-        state: state,
-    }
-}
-
-// A step that goes on, and how far the run is then.
-fn goes(waiting: usize, bound: VariableSet, count: usize) -> Stepped
-    ensures { result ≡ gone_to waiting bound count }
-{
-    let state = State {
-        waiting: waiting,
-        bound: bound,
-        count: count,
-    };
-    stays(Outcome::Goes, state)
+    let p = side::whole(input, atoms, left.images, left.node);
+    let q = side::whole(input, atoms, right.images, right.node);
+    let d = permutation::disagreement(p, q, atoms);
+    demands.raise_variable(d, x, number);
 }
 
 // Images under the inverse of another permutation. Most often that is the identity: then they are as they were, and nothing is inverted or composed.
@@ -156,100 +98,91 @@ fn under_inverse(outer: Permutation, q: Permutation, atoms: usize) -> Permutatio
 }
 
 // "X becomes the inverse of P applied to the right side. The binding holds the right side's node and the images acting on it from outside; that node's
-// own swaps aren't folded in."
+// own swaps aren't folded in." The other side stands here for the right one.
 fn bind(
-    s: &[u8],
-    places: &Places,
-    made: &mut Made,
-    values: &mut Values,
+    input: &Input,
+    bindings: &mut Bindings,
     atoms: usize,
     number: u8,
     state: State,
     x: Variable,
-    p: Permutation,
-    m: NodeId,
-    q: Permutation,
-    k: NodeId,
-) -> Stepped
-    requires { Standing s.now places.now × (atoms ≡ (problem_of s.now).atoms) × Hangs s.now m.0
-        × bindings.Keeps made.old state.count state.bound.0 × (member state.bound.0 x.0 ≡ false) × (x.0 < 64) }
-    ensures { BoundTo atoms number x.0
-        (under (inverted (whole_of s.now atoms (table atoms p) m.0)) (side_at atoms q k))
-        (bindings.binding_tables made.old values.old) state
-        (bindings.binding_tables made.new values.new) result }
+    side: &Side,
+    other: &Side,
+) -> State
+    requires { Standing input.now.bytes.now input.now.places.now × (atoms ≡ (problem_of input.now.bytes.now).atoms) × Hangs input.now.bytes.now side.now.node.0
+        × Keeps bindings.old.made.now state.count state.bound.0 × (member state.bound.0 x.0 ≡ false) × (x.0 < 64) }
+    ensures same { (bindings.new.made.ghost_name ≡ bindings.old.made.ghost_name) × (bindings.new.values.ghost_name ≡ bindings.old.values.ghost_name) }
+    ensures bound { BoundTo atoms number x.0
+        (under (inverted (whole_held input.now.bytes.now atoms side.now)) (side_held atoms other.now))
+        (binding_tables bindings.old.made.now bindings.old.values.now) state
+        (binding_tables bindings.new.made.now bindings.new.values.now) result }
 {
-    let outer = side::whole(s, places, atoms, p, m);
-    let images = under_inverse(outer, q, atoms);
+    let outer = side::whole(input, atoms, side.images, side.node);
+    let images = under_inverse(outer, other.images, atoms);
     let value = Value {
-        images: images,
-        node: k,
+        images,
+        node: other.node,
     };
-    let n = state.waiting;
-    let count = state.count;
-    let bound = state.bound;
-    let more = bindings::add(made, values, count, bound, x, value, number);
-    goes(n, more, count + 1)
+    let bound = bindings.add(state.count, state.bound, x, value, number);
+    State {
+        waiting: state.waiting,
+        bound,
+        count: state.count + 1,
+    }
 }
 
-// What the rule tells of two resolved sides, done for equation `number`. Of two abstractions of different atoms a and b it goes on with "s against t under
-// the swap of a and b, and a is demanded fresh for t".
+// What the rule tells of two resolved sides, done for equation `number`: how far the run is then, or why it refuses. Of two abstractions of different atoms
+// a and b it goes on with "s against t under the swap of a and b, and a is demanded fresh for t".
 pub fn perform(
-    s: &[u8],
-    places: &Places,
-    heads: &mut Heads,
-    images: &mut Images,
-    made: &mut Made,
-    values: &mut Values,
-    asked: &mut Asked,
-    firsts: &mut Firsts,
+    input: &Input,
+    work: &mut Work,
     atoms: usize,
     number: u8,
     state: State,
     act: Act,
     left: Side,
     right: Side,
-) -> Stepped
-    requires { Fit s.now places.now atoms state made.old left right act }
-    ensures { Performed s.now atoms number
-        (tables_of (pending.stack_tables heads.old images.old)
-        (bindings.binding_tables made.old values.old)
-        (sheet asked.old firsts.old)) state
-        (tables_of (pending.stack_tables heads.new images.new)
-        (bindings.binding_tables made.new values.new)
-        (sheet asked.new firsts.new)) result
-        (step_told s.now atoms left right act) }
+) -> Result<State, Reason>
+    requires { Fit input.now.bytes.now input.now.places.now atoms state work.old.bindings.made.now left right act }
+    ensures same { SameTables work.old work.new }
+    ensures performed { Performed input.now.bytes.now atoms number (tables_in work.old) state (tables_in work.new) result
+        (step_told input.now.bytes.now atoms left right act) }
 {
-    let p = left.images;
-    let l = left.node;
-    let q = right.images;
-    let r = right.node;
     let n = state.waiting;
-    let bound = state.bound;
-    let count = state.count;
+    // By the act that was told, and not by what decides it: a step is told before it is done (docs/DECISIONS.md, 31).
     match act {
-        Act::Done => stays(Outcome::Goes, state),
-        Act::Clash => stays(Outcome::Refuses(CLASH), state),
-        Act::Inside => stays(Outcome::Refuses(INSIDE), state),
-        Act::Protection => stays(Outcome::Refuses(PROTECTED), state),
+        Act::Done => Ok(state),
+        Act::Clash => Err(Reason::Clash),
+        Act::Inside => Err(Reason::Inside),
+        Act::Protection => Err(Reason::Protected),
         Act::Part(m, k) => {
-            one_part(heads, images, n, number, p, m, q, k);
-            goes(n + 1, bound, count)
+            work.stack.push(n, part(number, left, m, right, k));
+            Ok(state.with(n + 1))
         }
-        Act::Parts(i, m, k, o) => {
-            two_parts(heads, images, n, number, p, i, m, q, k, o);
-            goes(n + 2, bound, count)
+        // "Pairs: the left parts on top, then the right parts."
+        Act::Parts(l, m, k, o) => {
+            work.stack.push(n, part(number, left, m, right, o));
+            work.stack.push(n + 1, part(number, left, l, right, k));
+            Ok(state.with(n + 2))
         }
         Act::Renamed(a, m, b, k) => {
-            let swapped = permutation::swap_after(a, b, q, atoms);
-            one_part(heads, images, n, number, p, m, swapped, k);
-            demands::raise_side(asked, firsts, a, q, atoms, k, number);
-            goes(n + 1, bound, count)
+            let images = permutation::swap_after(a, b, right.images, atoms);
+            let swapped = Side { images, ..right };
+            work.stack.push(n, part(number, left, m, swapped, k));
+            work.demands.raise_side(a, right.images, atoms, k, number);
+            Ok(state.with(n + 1))
         }
         Act::Same(x) => {
-            same_variable(s, places, asked, firsts, atoms, number, x, p, l, q, r);
-            stays(Outcome::Goes, state)
+            same_variable(input, &mut work.demands, atoms, number, x, &left, &right);
+            Ok(state)
         }
-        Act::BindLeft(x) => bind(s, places, made, values, atoms, number, state, x, p, l, q, r),
-        Act::BindRight(x) => bind(s, places, made, values, atoms, number, state, x, q, r, p, l),
+        Act::BindLeft(x) => {
+            let bindings = &mut work.bindings;
+            Ok(bind(input, bindings, atoms, number, state, x, &left, &right))
+        }
+        Act::BindRight(x) => {
+            let bindings = &mut work.bindings;
+            Ok(bind(input, bindings, atoms, number, state, x, &right, &left))
+        }
     }
 }

@@ -9,7 +9,8 @@ use mathlib.Core.Bool.{Bool, true, false, cond, not, ◌||◌, true≢false}
 use mathlib.Core.List.{List, [], ◌∷◌, ◌++◌, map, map-append, map-id, append_assoc, append-nil, Memᴰ}
 use lib.ListN.{length, get_or, take, drop, set, length-append, length-take, length-drop, get_or-append, length-map, length-set}
 use lib.ListN.{drop_of_length-le}
-use lib.Seq.{take_at, drop_at, set_at, set-append_left, append_snoc, length-take-le, get_or-take, get_or-set_same, get_or-set_other, drop-cons}
+use lib.Seq.{take_at, drop_at, set_at, set-append_left, append_snoc, length-take-le, get_or-take, get_or-set_same, get_or-set_other}
+use lib.Seq.{drop-cons, take-suc, get_or_at}
 use lib.Dec.{eqb}
 use borrow.Author.Tests.{eq-eqb, ne_eqb, eqb-true, not-false}
 use Rattle.permutation.specs.Swaps.{Swaps, swapped, act, Within, swaps_in}
@@ -103,6 +104,36 @@ fill_more i f v h e =
     fill_end (tabulate i f) i v (length_tabulate i f) h
     ∙ ap padded (ap (λ (x : ℕ). tabulate i f ++ (x ∷ [])) e ∙ sym (tabulate_suc i f) ∙ ap (λ (k : ℕ). tabulate k f) (sym (add-one i)))
 
+-- ---- a swap, from the front
+
+-- Images of which the first i have been swapped.
+abbrev pub swapped_below : ℕ → ℕ → ℕ → List ℕ → List ℕ
+swapped_below a b i row = map (swapped a b) (take i row) ++ drop i row
+
+module _ (a b : ℕ) (row : List ℕ) (i : ℕ) where
+  module _ (h : i ≤ length row) where
+    length_front : length (map (swapped a b) (take i row)) ≡ i
+    length_front = length-map (take i row) (swapped a b) ∙ length-take-le i row h
+
+    pub length_swapped_below : length (swapped_below a b i row) ≡ length row
+    length_swapped_below = length-append (map (swapped a b) (take i row)) (drop i row) ∙ rw (length_front, length-drop) (omega arith)
+
+  module _ (h : i < length row) where
+    pub swapped_next : get_or (swapped_below a b i row) i 0 ≡ get_or row i 0
+    swapped_next =
+        let front = map (swapped a b) (take i row) in
+        ap (λ (rest : List ℕ). get_or (front ++ rest) i 0) (drop-cons row i 0 h)
+        ∙ get_or_at front (get_or row i 0) (drop (suc i) row) 0 i (length_front (omega arith))
+
+    pub swapped_more : (v : ℕ) → v ≡ swapped a b (get_or row i 0) → set (swapped_below a b i row) i v ≡ swapped_below a b (i + 1) row
+    swapped_more v e =
+        let front = map (swapped a b) (take i row) in
+        let longer : map (swapped a b) (take (suc i) row) ≡ front ++ (v ∷ []) =
+        ap (map (swapped a b)) (take-suc row i 0 h) ∙ map-append (swapped a b) (take i row) (get_or row i 0 ∷ []) ∙ rw e in
+        fill_at front row i v (length_front (omega arith)) h
+        ∙ ap (λ (l : List ℕ). l ++ drop (suc i) row) (sym longer)
+        ∙ ap (λ (k : ℕ). swapped_below a b k row) (sym (add-one i))
+
 -- ---- the definitions as tabulated functions
 
 pub map_tabulate : (f : ℕ → ℕ) (P : Table) (n : ℕ) → length P ≡ n → map f P ≡ tabulate n (λ a. f (image P a))
@@ -125,14 +156,6 @@ pub tabulate_same : (n : ℕ) (f g : ℕ → ℕ) → ((a : ℕ) → a < n → f
 tabulate_same n f g h =
     table_extensional (tabulate n f) (tabulate n g) (length_tabulate n f ∙ sym (length_tabulate n g)) λ a k.
     let l : a < n = rw length_tabulate at k in image_tabulate n f a l ∙ h a l ∙ sym (image_tabulate n g a l)
-
--- The image of an image, as composing reads it: from the second store where there is one.
-module _ (n : ℕ) (p q : Permutation) (i : ℕ) (h : i < n) (k : n ≤ length q.images) where
-  pub compose_inside : n ≤ length p.images → get_or q.images i 0 < n → get_or p.images (get_or q.images i 0) 0 ≡ image (table n p) (image (table n q) i)
-  compose_inside l m = sym (ap (image (table n p)) (image_table n q i h k) ∙ image_table n p (get_or q.images i 0) m l)
-
-  pub compose_outside : n ≤ get_or q.images i 0 → get_or q.images i 0 ≡ image (table n p) (image (table n q) i)
-  compose_outside m = sym (ap (image (table n p)) (image_table n q i h k) ∙ image_table_out n p (get_or q.images i 0) m)
 
 -- ---- every atom at its own place
 
@@ -219,45 +242,42 @@ exchanged n π a b h k =
     by_eq c a (λ e. rw (ne_eqb c b x, eq-eqb c a e, act_append π ((a, b) ∷ []) c, e, swapped_left)) λ y.
     rw (ne_eqb c b x, ne_eqb c a y, act_append π ((a, b) ∷ []) c, swapped_other a b c y x))
 
--- The first i bytes are read: the store holds the swaps in them, and the rest are swaps of the n atoms too.
-pub record Passed (n : ℕ) (s : List ℕ) (i : ℕ) (r : List ℕ) : Type 0 where
+-- Some bytes are left to read: the store holds the swaps before them, and those in them are swaps of the n atoms too.
+pub record Passed (n : ℕ) (s left r : List ℕ) : Type 0 where
   pub done : Swaps
-  pub all : done ++ swaps_in (drop i s) ≡ swaps_in s
-  pub rest : Within n (swaps_in (drop i s))
+  pub all : done ++ swaps_in left ≡ swaps_in s
+  pub within : Within n (swaps_in left)
   pub held : r ≡ padded (of_swaps n done)
 
-drop_two : (s : List ℕ) (i : ℕ) → i + 1 < length s → drop i s ≡ get_or s i 0 ∷ get_or s (i + 1) 0 ∷ drop (i + 2) s
-drop_two s i h =
-    let e : suc i ≡ i + 1 = omega arith in
-    let f : suc (i + 1) ≡ i + 2 = omega arith in
-    drop-cons s i 0 (omega arith)
-    ∙ ap (λ (l : List ℕ). get_or s i 0 ∷ l)
-    (ap (λ (j : ℕ). drop j s) e ∙ drop-cons s (i + 1) 0 h ∙ ap (λ (j : ℕ). get_or s (i + 1) 0 ∷ drop j s) f)
+pub passed_none : (n : ℕ) (s : List ℕ) → Within n (swaps_in s) → Passed n s s (padded (identity n))
+passed_none n s w = record { done = []; all = refl; within = w; held = ap padded (sym (of_swaps_none n)) }
 
-pub passed_none : (n : ℕ) (s : List ℕ) → Within n (swaps_in s) → Passed n s 0 (padded (identity n))
-passed_none n s w = record { done = []; all = refl; rest = w; held = ap padded (sym (of_swaps_none n)) }
+two_of : (x : List ℕ) → length x ≡ 2 → x ≡ get_or x 0 0 ∷ get_or x 1 0 ∷ []
+two_of [] h = absurd (omega arith)
+two_of (a ∷ []) h = absurd (omega arith)
+two_of (a ∷ b ∷ []) h = refl
+two_of (a ∷ b ∷ c ∷ x) h = absurd (omega arith)
 
-module _ (n : ℕ) (s : List ℕ) (i : ℕ) (r : List ℕ) (d : Passed n s i r) (h : i + 1 < length s) where
-  passed_rest : Within n (swaps_in (get_or s i 0 ∷ get_or s (i + 1) 0 ∷ drop (i + 2) s))
-  passed_rest = subst (λ (l : List ℕ). Within n (swaps_in l)) (drop_two s i h) d.rest
+pub passed_next : (n : ℕ) (s x : List ℕ) {left more r : List ℕ} → Passed n s left r → left ≡ x ++ more → length x ≡ 2
+    → Passed n s (get_or x 0 0 ∷ get_or x 1 0 ∷ more) r
+passed_next n s x {more = more} {r = r} d e h = subst (λ (l : List ℕ). Passed n s l r) (e ∙ ap (λ (l : List ℕ). l ++ more) (two_of x h)) d
 
-  pub passed_left : get_or s i 0 < n
-  passed_left = passed_rest.0.0
+module _ (n : ℕ) (s : List ℕ) (a b : ℕ) (more r : List ℕ) (d : Passed n s (a ∷ b ∷ more) r) where
+  passed_left : a < n
+  passed_left = d.within.0.0
 
-  pub passed_right : get_or s (i + 1) 0 < n
-  passed_right = passed_rest.0.1
+  passed_right : b < n
+  passed_right = d.within.0.1
 
-  passed_image : (a : ℕ) → a < n → get_or r a 0 ≡ act d.done a
-  passed_image a k = rw d.held (get_d_padded (of_swaps n d.done) a (rw length_of_swaps k) ∙ image_of_swaps n d.done a k)
+  passed_image : (c : ℕ) → c < n → get_or r c 0 ≡ act d.done c
+  passed_image c k = rw d.held (get_d_padded (of_swaps n d.done) c (rw length_of_swaps k) ∙ image_of_swaps n d.done c k)
 
-  pub passed_more : Passed n s (i + 2) (set (set r (get_or s i 0) (get_or r (get_or s (i + 1) 0) 0)) (get_or s (i + 1) 0) (get_or r (get_or s i 0) 0))
+  pub passed_more : Passed n s more (set (set r a (get_or r b 0)) b (get_or r a 0))
   passed_more =
-      let a = get_or s i 0 in
-      let b = get_or s (i + 1) 0 in
       record {
         done = d.done ++ ((a, b) ∷ []);
-        all = append_assoc d.done ((a, b) ∷ []) (swaps_in (drop (i + 2) s)) ∙ ap (λ (l : List ℕ). d.done ++ swaps_in l) (sym (drop_two s i h)) ∙ d.all;
-        rest = passed_rest.1;
+        all = append_assoc d.done ((a, b) ∷ []) (swaps_in more) ∙ d.all;
+        within = d.within.1;
         held = rw (passed_image a passed_left, passed_image b passed_right, d.held) (exchanged n d.done a b passed_left passed_right);
       }
 
@@ -266,10 +286,9 @@ swaps_in_none [] h = refl
 swaps_in_none (a ∷ []) h = refl
 swaps_in_none (a ∷ b ∷ s) h = absurd (omega arith)
 
-pub passed_all : (n : ℕ) (s : List ℕ) (i : ℕ) (r : List ℕ) → Passed n s i r → length s ≤ i + 1 → r ≡ padded (of_swaps n (swaps_in s))
-passed_all n s i r d h =
-    let e : swaps_in (drop i s) ≡ [] = swaps_in_none (drop i s) (rw length-drop (omega arith)) in
-    d.held ∙ ap (λ (π : Swaps). padded (of_swaps n π)) (sym (append-nil d.done) ∙ ap (λ (π : Swaps). d.done ++ π) (sym e) ∙ d.all)
+pub passed_all : (n : ℕ) (s left r : List ℕ) → Passed n s left r → length left ≤ 1 → r ≡ padded (of_swaps n (swaps_in s))
+passed_all n s left r d h =
+    d.held ∙ ap (λ (π : Swaps). padded (of_swaps n π)) (sym (append-nil d.done) ∙ ap (λ (π : Swaps). d.done ++ π) (sym (swaps_in_none left h)) ∙ d.all)
 
 -- ---- the disagreement set
 

@@ -6,8 +6,10 @@ use native.Mathlib.Omega.{arith}
 use mathlib.Core.Path.{◌≡◌, sym, ap, ◌∙◌}
 use mathlib.Core.List.{List, [], ◌∷◌, ◌++◌, append-nil}
 use mathlib.Core.Logic.{by_cases}
-use lib.ListN.{length, set, length-append, take-append-drop}
-use lib.Seq.{take-nil, drop-nil, length-take-le}
+use borrow.Rule.Slice.PartMut.{put_mid}
+use lib.ListN.{length, take, drop, length-append, take-append-drop, drop_of_length-le}
+use lib.Seq.{take-nil, drop-nil, take_all, length-take-le}
+use Rattle.std.proofs.lemmas.Slice.{put_mid-paste}
 use Rattle.printer.specs.Placed.{pasted, reached, Placed}
 
 -- Pasting, one byte at a time.
@@ -69,11 +71,7 @@ placed {d} {d'} {at} {r} {s} e h =
     let k : r ≤ length d' = omega (arith, min-le_left (length d) (at + length s), ap length h, pasted_length d at s) in
     record { ends = e; holds = h; within = k; counts = sym (length-take-le r d' k) }
 
--- What a writer leaves is as long as what it was lent.
-pub placed_length : {d d' : List ℕ} {at r : ℕ} {s : List ℕ} → Placed d at s r d' → length d' ≡ length d
-placed_length {d} {d'} {at} {r} {s} p = ap length p.holds ∙ pasted_length d at s
-
--- Nothing is left to write; the end is reached; one byte.
+-- Nothing is left to write; the end is reached.
 pub placed_nothing : (d : List ℕ) (at : ℕ) → at ≤ length d → Placed d at [] at d
 unfolding reached
 placed_nothing d at h = placed (rw (add-zero at) (sym (min-eq_right h))) (sym (pasted_nothing d at))
@@ -82,14 +80,21 @@ pub placed_past : (d : List ℕ) (at : ℕ) (s : List ℕ) → length d ≤ at �
 unfolding reached
 placed_past d at s h = placed (omega arith) (sym (pasted_past d at s h))
 
-pub placed_byte : (d : List ℕ) (at b : ℕ) → at < length d → Placed d at (b ∷ []) (at + 1) (set d at b)
-unfolding reached
-placed_byte d at b h = placed (omega arith) (one d at h)
+-- As much as fits, in one piece.
+pub placed_part : (d s m : List ℕ) (at k j : ℕ) → at < length d → k ≡ min (length s) (length d - at) → m ≡ take k s → j ≡ k
+    → Placed d at s (at + k) (put_mid at j d m)
+unfolding reached pasted
+placed_part d s m at k j h e f g =
+    placed (omega (arith, e)) (put_mid-paste at j d m (take k s) k f (sym g) (omega (arith, e, length-take-le k s (omega (arith, e)))) ∙ whole)
   where
-    one : (d : List ℕ) (at : ℕ) → at < length d → set d at b ≡ pasted d at (b ∷ [])
-    one [] at h = absurd (omega arith)
-    one (x ∷ d) zero h = rw (pasted_first x d b [], pasted_nothing d zero)
-    one (x ∷ d) (suc at) h = rw (pasted_before x d at (b ∷ [])) (ap (◌∷◌ x) (one d at (omega arith)))
+    whole : take at d ++ take k (take k s) ++ drop (at + k) d ≡ take at d ++ take (length d - at) s ++ drop (at + length s) d
+    whole =
+        by_cases (dec_lt (length d) (at + length s))
+        (λ l. let n : k ≡ length d - at = omega (arith, e) in
+        rw (n, take_all (length d - at) (take (length d - at) s) (omega (arith, length-take-le (length d - at) s (omega arith))))
+        (rw (drop_of_length-le d {i = at + (length d - at)} (omega arith), drop_of_length-le d {i = at + length s} (omega arith))))
+        (λ l. let n : k ≡ length s = omega (arith, e) in
+        rw (n, take_all (length s) s (omega arith), take_all (length s) s (omega arith), take_all (length d - at) s (omega arith)))
 
 -- One text right after another.
 infixl 5 ◌then◌

@@ -1,34 +1,26 @@
 -- Words compared byte by byte, and that each printed line is told by its word.
-use Prim.Native.Nat.{ℕ, ◌+◌, ◌≤◌, ◌<◌}
-use native.Mathlib.Numerals.{add-one}
-use mathlib.Core.Path.{◌≡◌, refl}
-use mathlib.Core.Logic.{◌≢◌}
-use mathlib.Core.Bool.{true, false}
-use mathlib.Core.List.{List, ◌++◌}
+use Prim.Native.Nat.{ℕ}
+use mathlib.Core.Path.{◌≡◌, refl, sym, ◌∙◌}
+use mathlib.Core.Bool.{Bool}
+use mathlib.Core.List.{List, [], ◌∷◌, ◌++◌}
+use lib.Dec.{eqb}
 use borrow.Author.Tests.{eq-eqb, ne_eqb}
-use lib.ListN.{length, get_or, drop, drop_of_length-le}
-use lib.Seq.{drop-cons}
+use Rattle.names.proofs.Equal.{by_eq}
+use Rattle.std.specs.List.{starts_with}
 use Rattle.printer.specs.Lines.{accepted_line, refused_line, bind_line, fresh_line, holds_word, newline}
 use Rattle.printer.specs.Kinds.{begins, kind_of}
 use Rattle.printer.specs.declared.Kind.TheVariants.{Accepted, Refused, Bind, Fresh, Holds}
 
-module _ (word s : List ℕ) (i : ℕ) where
-  pub begins_end : length word ≤ i → begins (drop i word) (drop i s) ≡ true
-  unfolding begins
-  begins_end h = rw (drop_of_length-le word h)
+starts_begins : (word s : List ℕ) → starts_with eqb s word ≡ begins word s
+unfolding begins
+starts_begins [] s = refl
+starts_begins (a ∷ word) [] = refl
+starts_begins (a ∷ word) (b ∷ s) =
+    by_eq b a (λ e. rw (eq-eqb b a e, eq-eqb a b (sym e)) (starts_begins word s)) (λ d. rw (ne_eqb b a d, ne_eqb a b (λ e. d (sym e))))
 
-  pub begins_short : i < length word → length s ≤ i → begins (drop i word) (drop i s) ≡ false
-  unfolding begins
-  begins_short h k = rw (drop-cons word i 0 h, drop_of_length-le s k)
-
-  module _ (h : i < length word) (k : i < length s) where
-    pub begins_other : get_or s i 0 ≢ get_or word i 0 → begins (drop i word) (drop i s) ≡ false
-    unfolding begins
-    begins_other e = rw (drop-cons word i 0 h, drop-cons s i 0 k, ne_eqb (get_or s i 0) (get_or word i 0) e)
-
-    pub begins_on : get_or s i 0 ≡ get_or word i 0 → begins (drop i word) (drop i s) ≡ begins (drop (i + 1) word) (drop (i + 1) s)
-    unfolding begins
-    begins_on e = rw (add-one i, drop-cons word i 0 h, drop-cons s i 0 k, eq-eqb (get_or s i 0) (get_or word i 0) e)
+-- What the library's test said.
+pub told : (word s : List ℕ) {r b : Bool} → r ≡ starts_with eqb s word → r ≡ b → begins word s ≡ b
+told word s e f = sym (starts_begins word s) ∙ sym e ∙ f
 
 -- Whatever follows a printed line, it is told.
 pub accepted_told : (steps : ℕ) (t : List ℕ) → kind_of (accepted_line steps ++ t) ≡ Accepted

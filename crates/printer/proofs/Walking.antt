@@ -11,6 +11,7 @@ use lib.ListN.{length, take, drop, length-drop}
 use lib.Seq.{length-take-le, take_all}
 use Rattle.field.specs.Field.{Field, cut, whole, front, byte, word, long}
 use Rattle.field.specs.Front.{front_of}
+use Rattle.field.specs.declared.AtFront.{AtFront}
 use Rattle.field.specs.declared.AtFront.TheVariants.{Whole, Cut, End}
 use Rattle.field.proofs.Standing.{stands}
 use Rattle.field.proofs.Told.{at_whole, at_cut, at_end}
@@ -116,15 +117,24 @@ pub midway_end : {d answer d' rest : List ℕ} {at r : ℕ} → Midway d at answ
 midway_end m e = rw (m.to_come, e, append-nil) m.so_far
 
 module _ (d : List ℕ) (at : ℕ) (answer d' : List ℕ) (r : ℕ) (rest : List ℕ) (m : Midway d at answer d' r rest) where
-  pub midway_stop : front_of rest ≡ End → Placed d at (answer_lines answer) r d'
+  midway_stop : front_of rest ≡ End → Placed d at (answer_lines answer) r d'
   unfolding front
   midway_stop e = midway_end m (lines_cut rest (ap front (at_end rest e) ∙ nothing))
     where
       nothing : front [] ≡ cut
       nothing = refl
 
-  pub midway_cut : front_of rest ≡ Cut → Placed d at (answer_lines answer) r d'
+  midway_cut : front_of rest ≡ Cut → Placed d at (answer_lines answer) r d'
   midway_cut e = midway_end m (lines_cut rest (at_cut rest e).the_front)
+
+  -- No whole field is left.
+  pub midway_over : ((tag n : ℕ) → front_of rest ≡ Whole tag n → ⊥) → Placed d at (answer_lines answer) r d'
+  midway_over = over (front_of rest) refl
+    where
+      over : (f : AtFront) → front_of rest ≡ f → ((tag n : ℕ) → f ≡ Whole tag n → ⊥) → Placed d at (answer_lines answer) r d'
+      over End e no_whole = midway_stop e
+      over Cut e no_whole = midway_cut e
+      over (Whole tag n) e no_whole = absurd (no_whole tag n refl)
 
   module _ (tag n : ℕ) (e : front_of rest ≡ Whole tag n) where
     pub whole_fits : 3 + n ≤ length rest

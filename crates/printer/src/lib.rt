@@ -2,26 +2,17 @@
 // for room; four bytes of room for each byte of an answer are always enough.
 #![tactic(auto)]
 
-ghost use Rattle.std.specs.Prelude.{◌≡◌, true, [], ◌∷◌, ◌+◌, ◌<◌, length};
-ghost use Rattle.field.specs.Field.{word};
+ghost use Rattle.std.specs.Prelude.{◌≡◌, true, false, IfSome, None, length};
 ghost use Rattle.printer.specs.Placed.{Placed};
 ghost use Rattle.layout.specs.Parts.{part_fits};
 ghost use Rattle.printer.specs.Lines.{decimal, spaced, images, accepted_line, refused_line, bind_line, fresh_line, field_line};
 ghost use Rattle.printer.specs.Lines.{answer_lines, solver_lines, judge_line, problem_lines, cut_line};
-ghost use Rattle.printer.specs.Kinds.{begins, kind_of};
+ghost use Rattle.printer.specs.Kinds.{kind_of};
+ghost use Rattle.printer.specs.Tags.{tag_of};
 
 use field::AtFront;
 use names::{Atom, NodeId, Variable};
-
-fn put_byte(out: &mut [u8], at: usize, b: u8) -> usize
-    ensures { Placed out.old at (b ∷ []) result out.new }
-{
-    if out.len() <= at {
-        return out.len();
-    }
-    out[at] = b;
-    at + 1
-}
+use numbers::Given;
 
 // Writes s from index `at` on, as much as fits, and answers where it ends: what is written next starts there.
 pub fn put(out: &mut [u8], at: usize, s: &[u8]) -> usize
@@ -30,203 +21,233 @@ pub fn put(out: &mut [u8], at: usize, s: &[u8]) -> usize
     if out.len() <= at {
         return out.len();
     }
-    let mut end = at;
-    let mut i: usize = 0;
-    while i < s.len() {
-        end = put_byte(out, end, s[i]);
-        i += 1;
-    }
-    end
+    let fits = s.len().min(out.len() - at);
+    out[at..at + fits].copy_from_slice(&s[..fits]);
+    at + fits
 }
 
-fn put_decimal(out: &mut [u8], at: usize, x: usize) -> usize
-    ensures { Placed out.old at (decimal x) result out.new }
-{
-    if x < 10 {
-        return put_byte(out, at, 48 + (x % 10) as u8);
-    }
-    let end = put_decimal(out, at, x / 10);
-    put_byte(out, end, 48 + (x % 10) as u8)
+// What a field of an answer says, told by its tag and by how long its body is.
+#[derive(Clone, Copy, PartialEq, Eq)]
+enum Part {
+    Steps,
+    Binding,
+    Fact,
 }
 
-fn put_spaced(out: &mut [u8], at: usize, x: usize) -> usize
-    ensures { Placed out.old at (spaced x) result out.new }
-{
-    let a = put(out, at, b" ");
-    put_decimal(out, a, x)
-}
-
-fn put_images(out: &mut [u8], at: usize, s: &[u8]) -> usize
-    ensures { Placed out.old at (images s.now) result out.new }
-{
-    if out.len() <= at {
-        return out.len();
-    }
-    let mut end = at;
-    let mut i: usize = 0;
-    while i < s.len() {
-        end = put_spaced(out, end, s[i] as usize);
-        i += 1;
-    }
-    end
-}
-
-fn put_accepted(out: &mut [u8], at: usize, steps: u32) -> usize
-    ensures { Placed out.old at (accepted_line steps) result out.new }
-{
-    let a = put(out, at, b"accepted ");
-    let b = put_decimal(out, a, steps as usize);
-    put(out, b, b"\n")
-}
-
-fn put_refused(out: &mut [u8], at: usize, number: u8, place: usize) -> usize
-    ensures { Placed out.old at (refused_line number place) result out.new }
-{
-    let a = put(out, at, b"refused ");
-    let b = put_decimal(out, a, number as usize);
-    let c = put_spaced(out, b, place);
-    put(out, c, b"\n")
-}
-
-fn put_bind(out: &mut [u8], at: usize, variable: Variable, node: NodeId, images: &[u8]) -> usize
-    ensures { Placed out.old at (bind_line variable.0 node.0 images.now) result out.new }
-{
-    let a = put(out, at, b"bind ");
-    let b = put_decimal(out, a, variable.0 as usize);
-    let c = put_spaced(out, b, node.0 as usize);
-    let d = put_images(out, c, images);
-    put(out, d, b"\n")
-}
-
-fn put_fresh(out: &mut [u8], at: usize, atom: Atom, variable: Variable) -> usize
-    ensures { Placed out.old at (fresh_line atom.0 variable.0) result out.new }
-{
-    let a = put(out, at, b"fresh ");
-    let b = put_decimal(out, a, atom.0 as usize);
-    let c = put_spaced(out, b, variable.0 as usize);
-    put(out, c, b"\n")
-}
-
+// Nothing for a field that no answer has.
 #[tactic(auto, unfolding(layout::specs::Parts::part_fits))]
-fn is_known(tag: u8, n: usize) -> bool
-    ensures { result ≡ part_fits tag n }
+fn part_of(tag: u8, n: usize) -> Option<Part>
+    ensures some { IfSome result (λ part. (tag ≡ tag_of part) × (part_fits tag n ≡ true)) }
+    ensures none { result ≡ None → part_fits tag n ≡ false }
 {
-    if tag == 0x4e {
-        return n == 4;
+    match tag {
+        0x4e if n == 4 => Some(Part::Steps),
+        0x40 if 3 <= n => Some(Part::Binding),
+        0x41 if n == 2 => Some(Part::Fact),
+        _ => None,
     }
-    if tag == 0x40 {
-        return 3 <= n;
-    }
-    if tag == 0x41 {
-        return n == 2;
-    }
-    false
 }
 
-#[tactic(auto, using(crate::proofs::Walking::steps_length, crate::proofs::Walking::binding_length, crate::proofs::Walking::fact_length))]
-fn put_field(out: &mut [u8], at: usize, tag: u8, body: &[u8]) -> usize
-    requires { part_fits tag (length body.now) ≡ true }
-    ensures { Placed out.old at (field_line tag body.now) result out.new }
-{
-    if tag == 0x4e {
-        return put_accepted(out, at, field::four(body, 0));
-    }
-    if tag == 0x40 {
-        return put_bind(
-            out,
-            at,
-            Variable(body[0]),
-            NodeId(field::two(body, 1)),
-            &body[3..],
-        );
-    }
-    put_fresh(out, at, Atom(body[0]), Variable(body[1]))
+// Lent bytes, and the index at which the next text starts. The public functions keep out and at: what they promise may not change.
+#[derive(Drop)]
+struct Lines<'a> {
+    out: &'a mut [u8],
+    at: usize,
 }
 
-// The answer's lines, in answer order.
-fn put_answer(out: &mut [u8], at: usize, answer: &[u8]) -> usize
-    ensures { Placed out.old at (answer_lines answer.now) result out.new }
-{
-    if out.len() <= at {
-        return out.len();
+// `same`: that a field keeps its reference is not known of a struct behind &mut, so each method says it.
+impl<'a> Lines<'a> {
+    fn put(&mut self, s: &[u8])
+        ensures same { self.new.out.ghost_name ≡ self.old.out.ghost_name }
+        ensures placed { Placed self.old.out.now self.old.at s.now self.new.at self.new.out.now }
+    {
+        self.at = put(self.out, self.at, s);
     }
-    let mut end = at;
-    let mut rest = answer;
-    loop {
-        let f = field::front(rest);
-        match f {
-            AtFront::End => {
-                return end;
+
+    // By hand, and not by Display: `write!` promises its text only where it came back Ok, and no clause of it says that it does. What a line
+    // puts here cannot fail. A digit is cast: try_from would bring a branch that is never taken.
+    fn decimal(&mut self, x: usize)
+        ensures same { self.new.out.ghost_name ≡ self.old.out.ghost_name }
+        ensures placed { Placed self.old.out.now self.old.at (decimal x) self.new.at self.new.out.now }
+    {
+        if 10 <= x {
+            self.decimal(x / 10);
+        }
+        self.put(&[b'0' + (x % 10) as u8]);
+    }
+
+    fn spaced(&mut self, x: usize)
+        ensures same { self.new.out.ghost_name ≡ self.old.out.ghost_name }
+        ensures placed { Placed self.old.out.now self.old.at (spaced x) self.new.at self.new.out.now }
+    {
+        self.put(b" ");
+        self.decimal(x);
+    }
+
+    fn images(&mut self, s: &[u8])
+        ensures same { self.new.out.ghost_name ≡ self.old.out.ghost_name }
+        ensures placed { Placed self.old.out.now self.old.at (images s.now) self.new.at self.new.out.now }
+    {
+        if self.out.len() <= self.at {
+            self.at = self.out.len();
+            return;
+        }
+        for &image in s {
+            self.spaced(usize::from(image));
+        }
+    }
+
+    fn accepted(&mut self, steps: u32)
+        ensures same { self.new.out.ghost_name ≡ self.old.out.ghost_name }
+        ensures placed { Placed self.old.out.now self.old.at (accepted_line steps) self.new.at self.new.out.now }
+    {
+        self.put(b"accepted ");
+        // Of a u32 no From makes a usize.
+        self.decimal(steps as usize);
+        self.put(b"\n");
+    }
+
+    fn refused(&mut self, given: Given)
+        ensures same { self.new.out.ghost_name ≡ self.old.out.ghost_name }
+        ensures placed { Placed self.old.out.now self.old.at (refused_line given.number given.place) self.new.at self.new.out.now }
+    {
+        self.put(b"refused ");
+        self.decimal(usize::from(given.number));
+        self.spaced(given.place);
+        self.put(b"\n");
+    }
+
+    fn bind(&mut self, variable: Variable, node: NodeId, images: &[u8])
+        ensures same { self.new.out.ghost_name ≡ self.old.out.ghost_name }
+        ensures placed { Placed self.old.out.now self.old.at (bind_line variable.0 node.0 images.now) self.new.at self.new.out.now }
+    {
+        self.put(b"bind ");
+        self.decimal(usize::from(variable.0));
+        self.spaced(usize::from(node.0));
+        self.images(images);
+        self.put(b"\n");
+    }
+
+    fn fresh(&mut self, atom: Atom, variable: Variable)
+        ensures same { self.new.out.ghost_name ≡ self.old.out.ghost_name }
+        ensures placed { Placed self.old.out.now self.old.at (fresh_line atom.0 variable.0) self.new.at self.new.out.now }
+    {
+        self.put(b"fresh ");
+        self.decimal(usize::from(atom.0));
+        self.spaced(usize::from(variable.0));
+        self.put(b"\n");
+    }
+
+    #[tactic(auto, using(crate::proofs::Walking::steps_length, crate::proofs::Walking::binding_length, crate::proofs::Walking::fact_length))]
+    fn field(&mut self, part: Part, body: &[u8])
+        requires { part_fits (tag_of part) (length body.now) ≡ true }
+        ensures same { self.new.out.ghost_name ≡ self.old.out.ghost_name }
+        ensures placed { Placed self.old.out.now self.old.at (field_line (tag_of part) body.now) self.new.at self.new.out.now }
+    {
+        match part {
+            Part::Steps => self.accepted(field::four(body, 0)),
+            Part::Binding => {
+                self.bind(Variable(body[0]), NodeId(field::two(body, 1)), &body[3..]);
             }
-            AtFront::Cut => {
-                return end;
-            }
-            AtFront::Whole(tag, n) => {
-                if !is_known(tag, n) {
-                    return end;
-                }
-                let body = field::body(rest, n);
-                end = put_field(out, end, tag, body);
-                rest = &rest[3 + n..];
-            }
+            Part::Fact => self.fresh(Atom(body[0]), Variable(body[1])),
+        }
+    }
+
+    // The answer's lines, in answer order.
+    fn answer(&mut self, answer: &[u8])
+        ensures same { self.new.out.ghost_name ≡ self.old.out.ghost_name }
+        ensures placed { Placed self.old.out.now self.old.at (answer_lines answer.now) self.new.at self.new.out.now }
+    {
+        if self.out.len() <= self.at {
+            self.at = self.out.len();
+            return;
+        }
+        let mut rest = answer;
+        while let AtFront::Whole(tag, n) = field::front(rest) {
+            let Some(part) = part_of(tag, n) else {
+                return;
+            };
+            self.field(part, field::body(rest, n));
+            rest = &rest[3 + n..];
+        }
+    }
+
+    #[tactic(auto, unfolding(crate::specs::Lines::solver_lines))]
+    fn solver(&mut self, given: Given, output: &[u8])
+        ensures same { self.new.out.ghost_name ≡ self.old.out.ghost_name }
+        ensures placed { Placed self.old.out.now self.old.at (solver_lines given.number given.place output.now) self.new.at self.new.out.now }
+    {
+        if given.number != 0 {
+            self.refused(given);
+        } else if given.place < output.len() {
+            self.answer(&output[..given.place]);
+        } else {
+            self.answer(output);
+        }
+    }
+
+    #[tactic(auto, unfolding(crate::specs::Lines::judge_line))]
+    fn judge(&mut self, given: Given)
+        ensures same { self.new.out.ghost_name ≡ self.old.out.ghost_name }
+        ensures placed { Placed self.old.out.now self.old.at (judge_line given.number given.place) self.new.at self.new.out.now }
+    {
+        if given.number != 0 {
+            self.refused(given);
+        } else {
+            self.put(b"holds\n");
         }
     }
 }
 
-// The solver's lines, from what it gives back: the number, the place and the lent output.
-#[tactic(auto, unfolding(crate::specs::Lines::solver_lines))]
-pub fn solver_lines(out: &mut [u8], at: usize, number: u8, place: usize, output: &[u8]) -> usize
-    ensures { Placed out.old at (solver_lines number place output.now) result out.new }
+// The solver's lines, from what it gives back, with the lent output: any number and place, also such as the table has not.
+pub fn solver_lines(out: &mut [u8], at: usize, given: Given, output: &[u8]) -> usize
+    ensures { Placed out.old at (solver_lines given.number given.place output.now) result out.new }
 {
-    if number != 0 {
-        return put_refused(out, at, number, place);
-    }
-    if place < output.len() {
-        return put_answer(out, at, &output[..place]);
-    }
-    put_answer(out, at, output)
+    let mut lines = Lines { out, at };
+    lines.solver(given, output);
+    lines.at
 }
 
 // The judge's line.
-#[tactic(auto, unfolding(crate::specs::Lines::judge_line))]
-pub fn judge_line(out: &mut [u8], at: usize, number: u8, place: usize) -> usize
-    ensures { Placed out.old at (judge_line number place) result out.new }
+pub fn judge_line(out: &mut [u8], at: usize, given: Given) -> usize
+    ensures { Placed out.old at (judge_line given.number given.place) result out.new }
 {
-    if number != 0 {
-        return put_refused(out, at, number, place);
-    }
-    put(out, at, b"holds\n")
+    let mut lines = Lines { out, at };
+    lines.judge(given);
+    lines.at
 }
 
 // What one problem of a stream prints.
 pub fn problem_lines(
     out: &mut [u8],
     at: usize,
-    number: u8,
-    place: usize,
+    solved: Given,
     output: &[u8],
-    judged: u8,
-    spot: usize,
+    judged: Given,
 ) -> usize
-    ensures { Placed out.old at (problem_lines number place output.now judged spot) result out.new }
+    ensures { Placed out.old at (problem_lines solved.number solved.place output.now judged.number judged.place) result out.new }
 {
-    let a = solver_lines(out, at, number, place, output);
-    let b = judge_line(out, a, judged, spot);
-    put(out, b, b"\n")
+    let mut lines = Lines { out, at };
+    lines.solver(solved, output);
+    lines.judge(judged);
+    lines.put(b"\n");
+    lines.at
 }
 
 // The last line of a stream that ends inside a length or a problem.
 pub fn cut_line(out: &mut [u8], at: usize, count: usize) -> usize
     ensures { Placed out.old at (cut_line count) result out.new }
 {
-    let a = put(out, at, b"stream cut after ");
-    let b = put_decimal(out, a, count);
-    let c = put(out, b, b" problems");
-    put(out, c, b"\n")
+    let mut lines = Lines { out, at };
+    lines.put(b"stream cut after ");
+    lines.decimal(count);
+    lines.put(b" problems");
+    lines.put(b"\n");
+    lines.at
 }
 
-// What a printed line says.
-#[derive(Clone, Copy)]
+// What a printed line says. Other is kind_of's sixth: the definition has all six.
+#[derive(Clone, Copy, PartialEq, Eq)]
 pub enum Kind {
     Accepted,
     Refused,
@@ -236,40 +257,23 @@ pub enum Kind {
     Other,
 }
 
-fn begins(s: &[u8], word: &[u8]) -> bool
-    ensures { result ≡ begins word.now s.now }
-{
-    let mut i: usize = 0;
-    while i < word.len() {
-        if s.len() <= i {
-            return false;
-        }
-        if s[i] != word[i] {
-            return false;
-        }
-        i += 1;
-    }
-    true
-}
-
 // Tells by its word what a line says, so that whoever reads the lines again need not know how they are written.
-#[tactic(auto, unfolding(crate::specs::Kinds::kind_of))]
 pub fn kind_of(line: &[u8]) -> Kind
     ensures { result ≡ kind_of line.now }
 {
-    if begins(line, b"accepted ") {
+    if line.starts_with(b"accepted ") {
         return Kind::Accepted;
     }
-    if begins(line, b"refused ") {
+    if line.starts_with(b"refused ") {
         return Kind::Refused;
     }
-    if begins(line, b"bind ") {
+    if line.starts_with(b"bind ") {
         return Kind::Bind;
     }
-    if begins(line, b"fresh ") {
+    if line.starts_with(b"fresh ") {
         return Kind::Fresh;
     }
-    if begins(line, b"holds\n") {
+    if line.starts_with(b"holds\n") {
         return Kind::Holds;
     }
     Kind::Other

@@ -1,4 +1,5 @@
 -- What is kept of a field says what the field says: the laws that the look-ups cite.
+use Rattle.std.specs.Prelude.{Some, None}
 use Prim.Native.Nat.{ℕ, zero, suc, ◌+◌, ◌*◌, ◌-◌, ◌/◌, ◌%◌, ◌≤◌, ◌<◌}
 use native.Mathlib.Omega.{arith}
 use mathlib.Core.Path.{◌≡◌, refl, sym, ◌∙◌, ap, subst}
@@ -187,28 +188,28 @@ no_swaps [] e = absurd (omega arith)
 no_swaps (X ∷ []) e = refl
 no_swaps (X ∷ a ∷ body) e = absurd (omega arith)
 
-some_swaps : (body : List ℕ) (X : ℕ) → 3 ≤ length body → bare_of (suspension_form (swaps_in (drop 1 body)) X) ≡ 255
+some_swaps : (body : List ℕ) (X : ℕ) → 3 ≤ length body → bare_of (suspension_form (swaps_in (drop 1 body)) X) ≡ None
 some_swaps [] X h = absurd (omega arith)
 some_swaps (Y ∷ []) X h = absurd (omega arith)
 some_swaps (Y ∷ a ∷ []) X h = absurd (omega arith)
 some_swaps (Y ∷ a ∷ b ∷ body) X h = refl
 
 module _ {s : List ℕ} {k : ℕ} {f : Node} (b : Bytes s) (w : ItemKept s k (node f)) where
-  pub bare_kept : key_in k ≡ 0x150001 → first_byte_in k ≡ bare_of f
+  pub bare_kept : key_in k ≡ 0x150001 → Some (record { 0 = first_byte_in k }) ≡ bare_of f
   bare_kept h =
       let key = kept_key b w in
       let size = kept_length b w in
       let e : w.stands.tag ≡ 0x15 = omega arith in
       let one : length w.stands.body ≡ 1 = omega arith in
       let X = byte w.stands.body 0 in
-      kept_first_byte b w (omega arith)
+      ap (λ (x : ℕ). bare_of (suspension_form [] x)) (kept_first_byte b w (omega arith))
       ∙ (ap (λ π. bare_of (suspension_form π X)) (sym (no_swaps w.stands.body one)) ∙ ap bare_of (suspension_body w.stands e).1)
 
-  pub not_bare : (key_in k ≡ 0x150001 → ⊥) → 255 ≡ bare_of f
+  pub not_bare : (key_in k ≡ 0x150001 → ⊥) → None ≡ bare_of f
   unfolding item
   not_bare h = go (kind w.stands.tag w.stands.body f w.stands.says)
     where
-      go : Kind w.stands.tag → 255 ≡ bare_of f
+      go : Kind w.stands.tag → None ≡ bare_of f
       go (unit_kind e) = ap bare_of (same_form (said w.stands 0x10 e))
       go (atom_kind e) = ap bare_of (same_form (said w.stands 0x11 e))
       go (abstraction_kind e) = ap bare_of (same_form (said w.stands 0x12 e))

@@ -5,4 +5,3 @@ pub mod Repeated
 pub mod Refusals
 pub mod Numbers
 pub mod Counted
-pub mod Clearing

@@ -1,6 +1,7 @@
 -- What the code looks up in the problem that an input is, in the code's own types, and what has to stand in the input and in the tables for it.
 -- Definitions alone.
-use Rattle.std.specs.Prelude.{ℕ, ◌<◌, cond, List, [], ◌∷◌, length, get_or, eqb}
+use Rattle.std.specs.Prelude.{ℕ, ◌<◌, cond, List, [], ◌∷◌, length, get_or, eqb, Option, Some, None}
+use Rattle.names.specs.declared.Variable.{Variable}
 use Rattle.field.specs.Word.{tag_in, key_in, first_byte_in, first_two_in, middle_two_in, last_two_in}
 use Rattle.permutation.specs.Swaps.{Swaps}
 use Rattle.problem.specs.Problem.{Node, unit_form, atom_form, abstraction_form, pair_form, application_form, suspension_form, form_at}
@@ -69,10 +70,9 @@ form_in w =
     (cond (eqb (tag_in w) 0x14) (Application (first_two_in w) (record { 0 = last_two_in w }))
     (Suspension (record { 0 = first_byte_in w }))))))
 
--- The variable of a suspension without swaps that is read off what is kept of a node, and 255, which is no variable, of another form. That it is the
--- node's own is a law too.
-unfoldable pub bare_in : ℕ → ℕ
-bare_in w = cond (eqb (key_in w) 0x150001) (first_byte_in w) 255
+-- The variable of a suspension without swaps that is read off what is kept of a node; another form has none. That it is the node's own is a law too.
+unfoldable pub bare_in : ℕ → Option Variable
+bare_in w = cond (eqb (key_in w) 0x150001) (Some (record { 0 = first_byte_in w })) None
 
 -- The form again, from what is told of it and its swaps.
 abbrev pub untold : Swaps → Form → Node
@@ -98,15 +98,15 @@ Suspended (pair_form l r) = ⊥
 Suspended (application_form f n) = ⊥
 Suspended (suspension_form π X) = Prim.Unit {0}
 
--- The variable of a suspension without swaps, and 255, which is no variable, of another form.
-abbrev pub bare_of : Node → ℕ
-bare_of unit_form = 255
-bare_of (atom_form a) = 255
-bare_of (abstraction_form a n) = 255
-bare_of (pair_form l r) = 255
-bare_of (application_form f n) = 255
-bare_of (suspension_form [] X) = X
-bare_of (suspension_form (s ∷ π) X) = 255
+-- The variable of a suspension without swaps; another form has none.
+abbrev pub bare_of : Node → Option Variable
+bare_of unit_form = None
+bare_of (atom_form a) = None
+bare_of (abstraction_form a n) = None
+bare_of (pair_form l r) = None
+bare_of (application_form f n) = None
+bare_of (suspension_form [] X) = Some (record { 0 = X })
+bare_of (suspension_form (s ∷ π) X) = None
 
 abbrev pub own_swaps : Node → Swaps
 own_swaps unit_form = []

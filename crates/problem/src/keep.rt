@@ -4,7 +4,7 @@ ghost use Rattle.sets.specs.Bits.{inserted};
 ghost use Rattle.problem.specs.Held.{with_place};
 
 use names::{Atom, Variable};
-use sets::AtomSet;
+use sets::Set;
 
 // One atom more is assumed fresh for a variable.
 pub fn assume(assumed: &mut [u32], a: Atom, x: Variable)
@@ -12,8 +12,8 @@ pub fn assume(assumed: &mut [u32], a: Atom, x: Variable)
     ensures { assumed.new
         ≡ set assumed.old x.0 (inserted 32 (get_or assumed.old x.0 0) a.0) }
 {
-    let i = x.0 as usize;
-    let atoms = AtomSet(assumed[i]).with(a);
+    let i = usize::from(x.0);
+    let atoms = Set(assumed[i]).with(a);
     assumed[i] = atoms.0;
 }
 
@@ -22,12 +22,7 @@ pub fn clear(assumed: &mut [u32], variables: u8)
     requires { variables ≤ length assumed.old }
     ensures { assumed.new ≡ replicate variables 0 ++ drop variables assumed.old }
 {
-    let n = variables as usize;
-    let mut i: usize = 0;
-    while i < n {
-        assumed[i] = 0;
-        i += 1;
-    }
+    assumed[..usize::from(variables)].fill(0);
 }
 
 // What is kept of a field at place n: its first eight bytes; of a suspension the last two of these are its offset.
@@ -42,5 +37,5 @@ pub fn put_suspension(places: &mut [u64], n: usize, w: u64, at: u16)
     requires { n < length places.old }
     ensures { places.new ≡ set places.old n (with_place at w) }
 {
-    places[n] = w / 65536 * 65536 + at as u64;
+    places[n] = w / 65536 * 65536 + u64::from(at);
 }

@@ -21,9 +21,11 @@ use Rattle.solutions.specs.Promises.{SameDemands, Agree}
 use Rattle.solutions.proofs.Corollaries.{ProperVerdict, proper, agree, Tells, solve_tells}
 use Rattle.solutions.proofs.Judge.{judge_exactly, judge_holds}
 use Rattle.figure3.proofs.Account.{verdict_is_figure3}
+use Rattle.std.specs.Prelude as std
 use Rattle.numbers.specs.declared.Given.{Given}
-use Rattle.numbers.specs.Numbers.{result_of, judgement_given}
-use Rattle.promises.specs.Demands.{First, FirstJudged, Second, SecondJudged, Third, ThirdTwice}
+use Rattle.numbers.specs.declared.Refusal.{Refusal}
+use Rattle.numbers.specs.Numbers.{solver_gives, judge_gives, result_of, judgement_given}
+use Rattle.promises.specs.Demands.{given_back, judged_back, First, FirstJudged, Second, SecondJudged, Third, ThirdTwice}
 
 -- ---- what the definition leaves in the output
 
@@ -65,14 +67,14 @@ unfolding verdict_read
 refused_any input b (read p) e k n o f z = refused_read p (verdict_of p (run_of p)) (proper p (readable base_tags input p b e)) n o f z
 refused_any input b (unreadable m q) e k n o f z = let g : m ≡ n = cc in let (x, y) = k in omega arith
 
-module _ (input output after : List ℕ) (r : Given) (b : Bytes input) (contract : result_of r after ≡ solve input output) where
-  leaves : Leaves output (result_of r after)
+module _ (input output after : List ℕ) (r : Given) (b : Bytes input) (contract : given_back r after ≡ solve input output) where
+  leaves : Leaves output (given_back r after)
   unfolding solve
   leaves =
       subst (Leaves output) (sym contract)
       (given_leaves output (verdict_read (reading base_tags input)) (refused_any input b (reading base_tags input) refl (reading_number base_tags input)))
 
-  refused_so : (n o : ℕ) → reading base_tags input ≡ unreadable n o → result_of r after ≡ record { number = n; place = o; output = output }
+  refused_so : (n o : ℕ) → reading base_tags input ≡ unreadable n o → given_back r after ≡ record { number = n; place = o; output = output }
   unfolding solve verdict_read given
   refused_so n o e = contract ∙ rw e refl
 
@@ -87,13 +89,13 @@ module _ (input output after : List ℕ) (r : Given) (b : Bytes input) (contract
   unfolding solve verdict_read
   second = record { the_run = λ p e. contract ∙ rw e refl; of_figure3 = λ p e. verdict_is_figure3 p (readable base_tags input p b e) }
 
-  tells : Tells input output (result_of r after)
+  tells : Tells input output (given_back r after)
   tells = subst (Tells input output) (sym contract) (solve_tells input output b)
 
   pub third : Third input output r after
   third = record { accepted = λ e. tells.0 (inl e); refused = tells.1 }
 
-module _ (input : List ℕ) (j : Given) (b : Bytes input) (contract : judgement_given j ≡ judge input) where
+module _ (input : List ℕ) (j : Given) (b : Bytes input) (contract : judged_back j ≡ judge input) where
   pub first_judged : FirstJudged input j
   unfolding judge judgement_read
   first_judged = record { bad_input = λ n o e. contract ∙ rw e refl }
@@ -120,7 +122,7 @@ module _ (p q : Problem) (d e : List ℕ) where
 
 module _ (s t d e after later : List ℕ) (r u : Given) (p q : Problem) (b : Bytes s) (c : Bytes t) (reads : reading base_tags s ≡ read p)
     (too : reading base_tags t ≡ read q)
-    (contract : result_of r after ≡ solve s d) (other : result_of u later ≡ solve t e) (same : SameDemands p q) where
+    (contract : given_back r after ≡ solve s d) (other : given_back u later ≡ solve t e) (same : SameDemands p q) where
   pub third_twice : ThirdTwice p q r u
   third_twice =
       let x = readable base_tags s p b reads in
@@ -131,3 +133,15 @@ module _ (s t d e after later : List ℕ) (r u : Given) (p q : Problem) (b : Byt
         alike = rw (k, l) (both p q d e (verdict_of p (run_of p)) (verdict_of q (run_of q)) (agree p q same x y) (proper p x) (proper q y));
         equally_general = agree p q same x y;
       }
+
+-- ---- the contracts of the entries as they stand in the code, which are of a Result
+
+pub solver_keeps : (input output after : List ℕ) (r : std.Result ℕ Refusal) → Bytes input → result_of r after ≡ solve input output
+    → First input output (solver_gives r) after × Second input output (solver_gives r) after × Third input output (solver_gives r) after
+solver_keeps input output after r b contract =
+    let g = solver_gives r in
+    (first input output after g b contract, second input output after g b contract, third input output after g b contract)
+
+pub judge_keeps : (input : List ℕ) (j : std.Result Unit Refusal) → Bytes input → judgement_given j ≡ judge input
+    → FirstJudged input (judge_gives j) × SecondJudged input (judge_gives j)
+judge_keeps input j b contract = (first_judged input (judge_gives j) b contract, second_judged input (judge_gives j) b contract)

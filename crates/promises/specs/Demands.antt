@@ -1,5 +1,5 @@
--- The user's three demands in his words, said of what the code gives back: a number and a place, with the output's final content. Definitions
--- alone; that the entries keep them is in proofs/.
+-- The user's three demands in his words, said of the number and the place that what the code gives back stands for, with the output's final content.
+-- Definitions alone; that the entries keep them is in proofs/.
 use Rattle.std.specs.Prelude.{ℕ, ◌≤◌, ◌≡◌, ◌≢◌, ◌↔◌, List, length, drop}
 use Rattle.problem.specs.Problem.{Problem}
 use Rattle.problem.specs.Reader.{read, unreadable, reading, base_tags}
@@ -8,7 +8,14 @@ use Rattle.run.specs.Answer.{verdict_of, given}
 use Rattle.solutions.specs.Promises.{Derives, Agree, Accepts, Refuses}
 use Rattle.figure3.specs.Account.{Account}
 use Rattle.numbers.specs.declared.Given.{Given}
-use Rattle.numbers.specs.Numbers.{result_of, judgement_given, NoSolution}
+use Rattle.numbers.specs.Numbers.{Result, Judgement, NoSolution}
+
+-- What the solver gives back, with the output's final content; and the judge.
+abbrev pub given_back : Given → List ℕ → Result
+given_back r after = record { number = r.number; place = r.place; output = after }
+
+abbrev pub judged_back : Given → Judgement
+judged_back j = (j.number, j.place)
 
 -- ---- 1
 
@@ -20,7 +27,7 @@ pub record First (input output : List ℕ) (r : Given) (after : List ℕ) : Type
       → (r.place ≤ length output) × (length after ≡ length output) × (drop r.place after ≡ drop r.place output)
 
 pub record FirstJudged (input : List ℕ) (j : Given) : Type 0 where
-  pub bad_input : (n o : ℕ) → reading base_tags input ≡ unreadable n o → judgement_given j ≡ (n, o)
+  pub bad_input : (n o : ℕ) → reading base_tags input ≡ unreadable n o → judged_back j ≡ (n, o)
 
 -- ---- 2
 
@@ -33,7 +40,7 @@ pub record SecondJudged (input : List ℕ) (j : Given) : Type 0 where
 -- "The solver's answer, its step count and its refusals are those of the one run of their transformations that document 01 fixes": the definition's, of
 -- which figure 3 has an account. "and each accepted answer solves its problem": with demand 3, in `Accepts`.
 pub record Second (input output : List ℕ) (r : Given) (after : List ℕ) : Type 0 where
-  pub the_run : (p : Problem) → reading base_tags input ≡ read p → result_of r after ≡ given (verdict_of p (run_of p)) output
+  pub the_run : (p : Problem) → reading base_tags input ≡ read p → given_back r after ≡ given (verdict_of p (run_of p)) output
   pub of_figure3 : (p : Problem) → reading base_tags input ≡ read p → Account p (verdict_of p (run_of p))
 
 -- ---- 3
@@ -41,7 +48,7 @@ pub record Second (input output : List ℕ) (r : Given) (after : List ℕ) : Typ
 -- "If it is accepted, the allowed solutions are exactly the allowed instances of the answer; if it is refused, no allowed solution exists, of any size,
 -- with any names."
 pub record Third (input output : List ℕ) (r : Given) (after : List ℕ) : Type 0 where
-  pub accepted : r.number ≡ 0 → Accepts input output (result_of r after)
+  pub accepted : r.number ≡ 0 → Accepts input output (given_back r after)
   pub refused : NoSolution r.number → Refuses input
 
 -- "So the same demands in another order, or with some listed twice, are accepted or refused alike, and two answers to them are equally general, as long

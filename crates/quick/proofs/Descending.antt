@@ -17,7 +17,7 @@ use Rattle.run.proofs.States.{State as RunState}
 use Rattle.stack.specs.Stack.{Stack, stack_tables, stack_of}
 use Rattle.stack.specs.InPlace.{left_at, right_at, nodes_at, equation_at, stack_with, Renewed, Split}
 use Rattle.stack.specs.declared.Nodes.{Nodes}
-use Rattle.stack.proofs.Stack.{length_stack_of}
+use Rattle.stack.proofs.Laws.{length_stack_of}
 use Rattle.stack.proofs.InPlace.{top_at}
 use Rattle.bindings.specs.Bindings.{bindings_of}
 use Rattle.side.specs.Side.{ground_in}
@@ -149,6 +149,10 @@ module _ {s : List ℕ} {places : List ℕ} {A L : ℕ} {before : StepTables} {t
   down_waits same waits =
       rw (same, waits.1)
       (record { going = λ w first g. going (waits.0.stack A t.stack.images few_atoms) (h.atop w first g).underway; more = h.more })
+
+  -- No step more may be taken: all were.
+  pub down_all : L ≤ steps → steps ≡ L
+  down_all h = omega (arith, h, from_start.underway.within)
 
   -- Where its nodes lead.
   module _ {i j : NodeId} (left : LeadsTo s t.bindings state.bound.0 l i) (right : LeadsTo s t.bindings state.bound.0 r j) where

@@ -1,13 +1,15 @@
 -- The laws of where a node leads: a suspension without swaps, of a variable that is bound to a node as it is, resolves to that node under the same images.
-use Prim.Native.Nat.{ℕ, ◌-◌, ◌<◌}
+use Prim.Native.Nat.{ℕ, ◌-◌}
 use native.Mathlib.Omega.{arith}
-use mathlib.Core.Path.{◌≡◌, sym, ◌∙◌, ap}
+use mathlib.Core.Path.{◌≡◌, ◌∙◌, ap}
 use mathlib.Core.Logic.{◌≢◌}
 use mathlib.Core.Bool.{Bool, true}
 use mathlib.Core.List.{List, [], ◌∷◌}
 use mathlib.Core.Option.{some}
 use lib.ListN.{length}
+use Rattle.std.specs.Prelude.{Some}
 use Rattle.names.specs.declared.NodeId.{NodeId}
+use Rattle.names.specs.declared.Variable.{Variable}
 use Rattle.permutation.specs.Table.{Table, identity}
 use Rattle.permutation.proofs.Table.{of_swaps_none}
 use Rattle.sets.specs.Bits.{member}
@@ -17,20 +19,20 @@ use Rattle.problem.specs.Look.{form_now, form_told, bare_of}
 use Rattle.run.specs.Meaning.{Side, Binding}
 use Rattle.run.specs.Run.{value_of, under, resolved_in, resolved}
 use Rattle.bindings.specs.Bindings.{Bindings, binding_at, bindings_of, images_of, node_of, Keeps}
-use Rattle.bindings.proofs.Bindings.{value_of_set}
+use Rattle.bindings.proofs.Laws.{value_of_set}
 use Rattle.side.specs.Side.{ground_in, whole_of}
 use Rattle.side.proofs.Resolving.{after_none, resolved_stop, resolved_on, unbound_told}
 use Rattle.quick.specs.Met.{side_under, FreeAt, LeadsTo}
 
--- The form of which the code tells a variable there is.
-pub bare_form : (v : Node) (X : ℕ) → X ≡ bare_of v → X < 64 → v ≡ suspension_form [] X
-bare_form unit_form X e h = absurd (omega arith)
-bare_form (atom_form a) X e h = absurd (omega arith)
-bare_form (abstraction_form a n) X e h = absurd (omega arith)
-bare_form (pair_form l r) X e h = absurd (omega arith)
-bare_form (application_form f n) X e h = absurd (omega arith)
-bare_form (suspension_form [] X) Y e h = ap (suspension_form []) (sym e)
-bare_form (suspension_form (p ∷ π) X) Y e h = absurd (omega arith)
+-- The form of which the code tells a variable.
+pub bare_form : (v : Node) (X : Variable) → Some X ≡ bare_of v → v ≡ suspension_form [] X.0
+bare_form unit_form X e = cc
+bare_form (atom_form a) X e = cc
+bare_form (abstraction_form a n) X e = cc
+bare_form (pair_form l r) X e = cc
+bare_form (application_form f n) X e = cc
+bare_form (suspension_form [] X) Y e = cc
+bare_form (suspension_form (p ∷ π) X) Y e = cc
 
 valued_some : (bs : List Binding) (X : ℕ) (v : Side) → value_of bs X ≡ some v → length bs ≢ 0
 valued_some [] X v e z = let y : ◌≡◌ {A = ℕ} 0 1 = cc in omega arith

@@ -2,12 +2,11 @@
 use Prim.Native.Nat.{ℕ, ◌≤◌, ◌<◌}
 use native.Mathlib.Omega.{arith}
 use mathlib.Core.Path.{◌≡◌, refl, sym, ◌∙◌, ap}
-use mathlib.Core.Logic.{◌≢◌}
 use mathlib.Core.Bool.{Bool, true, false, cond}
 use mathlib.Core.List.{List, [], ◌∷◌, map, append-nil}
 use lib.ListN.{length}
 use lib.Dec.{eqb}
-use borrow.Author.Tests.{eq-eqb, ne_eqb}
+use borrow.Author.Tests.{eq-eqb}
 use Rattle.names.specs.declared.NodeId.{NodeId}
 use Rattle.permutation.specs.Table.{image, inverted, disagreement}
 use Rattle.permutation.proofs.Store.{members_disagreement}
@@ -36,13 +35,13 @@ taken_still : {A number n : ℕ} {step : Step} {meeting : Meeting} {t : MeetTabl
 taken_still e = record { demanded = []; onward = e; below = λ heads. refl; raised = λ nodes variables ds few raised. rw append-nil raised }
 
 -- "with a equal to b, s against t"
-pub same_abstractions : {A number n : ℕ} {t : MeetTables} {m k : NodeId} {a b : ℕ} → a ≡ b
+pub same_abstractions : {A number n : ℕ} {t : MeetTables} {m k : NodeId} (a b : ℕ) → eqb a b ≡ true
     → Taken A number n (abstractions a (side_under (left_at A t.images n) m) b (side_under (right_at A t.images n) k)) (Part m k) t t
 unfolding abstractions
-same_abstractions {a = a} {b} e = taken_still (rw (eq-eqb a b e))
+same_abstractions a b e = taken_still (rw e)
 
 -- "else s against t under the swap of a and b, and a is demanded fresh for t": by the atom that t's images send to a.
-pub other_abstractions : {A number n : ℕ} {before after : MeetTables} {m k : NodeId} {a b c : ℕ} → A ≤ 32 → a ≢ b
+pub other_abstractions : {A number n : ℕ} {before after : MeetTables} {m k : NodeId} {a b c : ℕ} → A ≤ 32 → eqb a b ≡ false
     → c ≡ image (inverted (right_at A before.images n)) a → NodeRaised c k.0 number before.sheet after.sheet
     → RightSwapped a b n before.images after.images
     → Taken A number n (abstractions a (side_under (left_at A before.images n) m) b (side_under (right_at A before.images n) k)) (Part m k) before after
@@ -50,7 +49,7 @@ unfolding abstractions
 other_abstractions {A} {n = n} {before} {k = k} {a} {b} few differ is_preimage asked swapped =
     record {
       demanded = (a, of_side (side_under (right_at A before.images n) k)) ∷ [];
-      onward = rw (ne_eqb a b differ, swapped.left A, swapped.right A few);
+      onward = rw (differ, swapped.left A, swapped.right A few);
       below = swapped.below A;
       raised = λ nodes variables ds few_nodes raised. asked.raised a (right_at A before.images n) is_preimage nodes variables ds raised;
     }

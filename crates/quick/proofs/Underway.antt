@@ -18,7 +18,7 @@ use Rattle.room.proofs.Reached.{reached_all}
 use Rattle.room.proofs.Room.{run_onward, reaches_room}
 use Rattle.stack.specs.Stack.{stack_of}
 use Rattle.bindings.specs.Bindings.{Bindings, binding_at, bindings_of, Keeps, NodesThere}
-use Rattle.bindings.proofs.Bindings.{value_of_set}
+use Rattle.bindings.proofs.Laws.{value_of_set}
 use Rattle.demands.specs.Demands.{Sheet, Raised}
 use Rattle.side.specs.Side.{ground_in}
 use Rattle.perform.specs.declared.State.{State}

@@ -13,6 +13,7 @@ use Rattle.stack.specs.InPlace.{left_at, right_at}
 use Rattle.bindings.specs.Bindings.{Bindings, bindings_of, Keeps, NodesThere}
 use Rattle.demands.specs.Demands.{Sheet, sheet, Raised}
 use Rattle.side.specs.Side.{ground_in, is_bound}
+use Rattle.perform.specs.declared.Work.{Work}
 use Rattle.quick.specs.declared.Meeting.{Meeting}
 use Rattle.quick.specs.declared.Meeting.TheVariants.{Leave, Done, Part, Parts}
 
@@ -45,6 +46,15 @@ pub record MeetTables : Type 0 where
 
 abbrev pub meet_tables : List (List (List ℕ)) → List (List ℕ) → List (List ℕ) → MeetTables
 meet_tables images asked firsts = record { images = images; sheet = sheet asked firsts }
+
+-- Among those that a run works in; and the others stay.
+abbrev pub met_in : Work → MeetTables
+met_in w = meet_tables w.stack.images.now w.demands.asked.now w.demands.firsts.now
+
+pub record OthersStay (before after : Work) : Type 0 where
+  pub heads : after.stack.heads.now ≡ before.stack.heads.now
+  pub made : after.bindings.made.now ≡ before.bindings.made.now
+  pub values : after.bindings.values.now ≡ before.bindings.values.now
 
 -- What is left of the equation at place n, from the top down: under the images that stand there then.
 abbrev pub left_of : ℕ → List (List (List ℕ)) → ℕ → Meeting → List (Side × Side)

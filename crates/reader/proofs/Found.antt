@@ -6,6 +6,7 @@ use mathlib.Core.Bool.{Bool, true, false, not, ◌&&◌, cond, and-true, and-fal
 use mathlib.Core.List.{List, [], ◌∷◌}
 use lib.ListN.{length, take, drop}
 use lib.Seq.{drop-drop}
+use Rattle.std.specs.Prelude.{Option, Some, None}
 use lib.Dec.{eqb, leb, ltb}
 use borrow.Author.Tests.{eq-eqb, ne_eqb, lt-ltb, le-leb, lt-leb, eqb-true}
 use Rattle.names.proofs.Equal.{by_eq, by_lt}
@@ -28,8 +29,8 @@ use Rattle.reader.specs.Found.{suspension_good, equation_good, freshness_good, a
 abbrev three_tests : Bool → Bool → Bool → ℕ
 three_tests fits has_room is_there = cond (not fits) 5 (cond (not has_room) 6 (cond (not is_there) 7 0))
 
-three_pass : (fits has_room is_there : Bool) (n : ℕ)
-    → cond (fits && (has_room && is_there)) n 0 ≡ cond (eqb (three_tests fits has_room is_there) 0) n 0
+three_pass : (fits has_room is_there : Bool) (n : Option ℕ)
+    → cond (fits && (has_room && is_there)) n None ≡ cond (eqb (three_tests fits has_room is_there) 0) n None
 three_pass true true true n = refl
 three_pass true true false n = refl
 three_pass true false c n = refl
@@ -77,7 +78,7 @@ module _ (z : Sizes) (t : List ℕ) (b : Bytes t) (seen : Seen t) where
       (fits : (body : List ℕ) → eqb (length body) n ≡ true → fault base_tags z k body ≡ three_tests true has_room (is_there body))
       (misfits : (body : List ℕ) → eqb (length body) n ≡ false → fault base_tags z k body ≡ 5)
       (tested : (body rest : List ℕ) → front t ≡ whole k body rest → length body ≡ n → test ≡ has_room && is_there body) where
-    sized_in : (x : Field) → front t ≡ x → cond (eqb (key_in (eight t)) (k * 65536 + n) && test) (3 + n) 0 ≡ size_if_good z x
+    sized_in : (x : Field) → front t ≡ x → cond (eqb (key_in (eight t)) (k * 65536 + n) && test) (Some (3 + n)) None ≡ size_if_good z x
     sized_in cut e =
         let h = long_body t b seen e in rw (ne_eqb (key_in (eight t)) (k * 65536 + n) (λ q. omega (arith, key_is k tagged)))
     sized_in (whole tag body rest) e =
@@ -88,43 +89,43 @@ module _ (z : Sizes) (t : List ℕ) (b : Bytes t) (seen : Seen t) where
         let y = eq-eqb (length body) n m in
         let x : key_in (eight t) ≡ k * 65536 + n = omega (arith, key_is k tagged) in
         rw (q, eq-eqb (key_in (eight t)) (k * 65536 + n) x, tested body rest (rw q at e) m, fits body y, m)
-        (three_pass true has_room (is_there body) (3 + n)))
+        (three_pass true has_room (is_there body) (Some (3 + n))))
         (λ m.
         rw (q, ne_eqb (key_in (eight t)) (k * 65536 + n) (λ x. m (omega (arith, key_is k tagged))), misfits body (ne_eqb (length body) n m)))
 
-    sized_as : cond (eqb (key_in (eight t)) (k * 65536 + n) && test) (3 + n) 0 ≡ good_size z t
+    sized_as : cond (eqb (key_in (eight t)) (k * 65536 + n) && test) (Some (3 + n)) None ≡ good_size z t
     unfolding good_size
     sized_as = sized_in (front t) refl
 
   -- ---- nodes, where there is room for one more
 
   module _ (h : z.nodes < 512) where
-    pub unit_size : tag_in (eight t) ≡ 0x10 → cond (unit_good (eight t)) 3 0 ≡ good_size z t
+    pub unit_size : tag_in (eight t) ≡ 0x10 → cond (unit_good (eight t)) (Some 3) None ≡ good_size z t
     unfolding fault base_tags length_fits item room there
     unit_size e =
-        ap (λ g. cond g 3 0) (sym (and-true (unit_good (eight t))))
+        ap (λ g. cond g (Some 3) None) (sym (and-true (unit_good (eight t))))
         ∙ sized_as 0x10 0 (omega arith) e (ltb z.nodes 512) true (λ s. true) (λ s q. rw q) (λ s q. rw q)
         (λ s r w l. rw (lt-ltb z.nodes 512 h))
 
-    pub atom_size : tag_in (eight t) ≡ 0x11 → cond (atom_good z.atoms (eight t)) 4 0 ≡ good_size z t
+    pub atom_size : tag_in (eight t) ≡ 0x11 → cond (atom_good z.atoms (eight t)) (Some 4) None ≡ good_size z t
     unfolding fault base_tags length_fits item room there
     atom_size e =
         sized_as 0x11 1 (omega arith) e (ltb z.nodes 512) _ (λ s. ltb (byte s 0) z.atoms) (λ s q. rw q) (λ s q. rw q)
         (λ s r w l. rw (lt-ltb z.nodes 512 h, field_first_byte t b w (omega arith)))
 
-    pub abstraction_size : tag_in (eight t) ≡ 0x12 → cond (abstraction_good z.atoms z.nodes (eight t)) 6 0 ≡ good_size z t
+    pub abstraction_size : tag_in (eight t) ≡ 0x12 → cond (abstraction_good z.atoms z.nodes (eight t)) (Some 6) None ≡ good_size z t
     unfolding fault base_tags length_fits item room there
     abstraction_size e =
         sized_as 0x12 3 (omega arith) e (ltb z.nodes 512) _ (λ s. ltb (byte s 0) z.atoms && ltb (word s 1) z.nodes) (λ s q. rw q) (λ s q. rw q)
         (λ s r w l. rw (lt-ltb z.nodes 512 h, field_first_byte t b w (omega arith), field_middle_two t b w (omega arith)))
 
-    pub pair_size : tag_in (eight t) ≡ 0x13 → cond (pair_good z.nodes (eight t)) 7 0 ≡ good_size z t
+    pub pair_size : tag_in (eight t) ≡ 0x13 → cond (pair_good z.nodes (eight t)) (Some 7) None ≡ good_size z t
     unfolding fault base_tags length_fits item room there
     pair_size e =
         sized_as 0x13 4 (omega arith) e (ltb z.nodes 512) _ (λ s. ltb (word s 0) z.nodes && ltb (word s 2) z.nodes) (λ s q. rw q) (λ s q. rw q)
         (λ s r w l. rw (lt-ltb z.nodes 512 h, field_first_two t b w (omega arith), field_last_two t b w (omega arith)))
 
-    pub application_size : tag_in (eight t) ≡ 0x14 → cond (application_good z.nodes (eight t)) 7 0 ≡ good_size z t
+    pub application_size : tag_in (eight t) ≡ 0x14 → cond (application_good z.nodes (eight t)) (Some 7) None ≡ good_size z t
     unfolding fault base_tags length_fits item room there
     application_size e =
         sized_as 0x14 4 (omega arith) e (ltb z.nodes 512) _ (λ s. ltb (word s 2) z.nodes) (λ s q. rw q) (λ s q. rw q)
@@ -133,7 +134,7 @@ module _ (z : Sizes) (t : List ℕ) (b : Bytes t) (seen : Seen t) where
     -- A suspension's swaps are looked at in the bytes.
     module _ (e : tag_in (eight t) ≡ 0x15) where
       suspension_in : (x : Field) → front t ≡ x
-          → cond (suspension_good z.atoms z.variables t (eight t)) (3 + length_in (eight t)) 0 ≡ size_if_good z x
+          → cond (suspension_good z.atoms z.variables t (eight t)) (Some (3 + length_in (eight t))) None ≡ size_if_good z x
       unfolding fault base_tags length_fits item room there
       suspension_in cut f =
           let far = cut_far t b f in
@@ -154,7 +155,7 @@ module _ (z : Sizes) (t : List ℕ) (b : Bytes t) (seen : Seen t) where
             m,
             lt-ltb z.nodes 512 h,
           )
-          (three_pass true true (ltb (byte body 0) z.variables && true) 4))
+          (three_pass true true (ltb (byte body 0) z.variables && true) (Some 4)))
           (λ m.
           let no_key = ne_eqb (key_in (eight t)) 0x150001 (λ x. m (omega arith)) in
           by_test (eqb (length body % 2) 1)
@@ -174,35 +175,35 @@ module _ (z : Sizes) (t : List ℕ) (b : Bytes t) (seen : Seen t) where
             lt-ltb z.nodes 512 h,
             suspended z.atoms body (eqb-true (length body % 2) 1 odd),
           )
-          (three_pass true true (ltb (byte body 0) z.variables && below z.atoms (drop 1 body)) (3 + length body)))
+          (three_pass true true (ltb (byte body 0) z.variables && below z.atoms (drop 1 body)) (Some (3 + length body))))
           (λ many. rw (q, l, no_key, odd, many, and-false)))
           (λ even. rw (q, l, no_key, even, and-false)))
 
-      pub suspension_size : cond (suspension_good z.atoms z.variables t (eight t)) (3 + length_in (eight t)) 0 ≡ good_size z t
+      pub suspension_size : cond (suspension_good z.atoms z.variables t (eight t)) (Some (3 + length_in (eight t))) None ≡ good_size z t
       unfolding good_size
       suspension_size = suspension_in (front t) refl
 
   -- ---- the other fields
 
-  pub equation_size : tag_in (eight t) ≡ 0x20 → cond (equation_good z (eight t)) 7 0 ≡ good_size z t
+  pub equation_size : tag_in (eight t) ≡ 0x20 → cond (equation_good z (eight t)) (Some 7) None ≡ good_size z t
   unfolding fault base_tags length_fits item room there
   equation_size e =
       sized_as 0x20 4 (omega arith) e (ltb z.equations 64) _ (λ s. ltb (word s 0) z.nodes && ltb (word s 2) z.nodes) (λ s q. rw q) (λ s q. rw q)
       (λ s r w l. rw (field_first_two t b w (omega arith), field_last_two t b w (omega arith)))
 
-  pub freshness_size : tag_in (eight t) ≡ 0x21 → cond (freshness_good z (eight t)) 6 0 ≡ good_size z t
+  pub freshness_size : tag_in (eight t) ≡ 0x21 → cond (freshness_good z (eight t)) (Some 6) None ≡ good_size z t
   unfolding fault base_tags length_fits item room there
   freshness_size e =
       sized_as 0x21 3 (omega arith) e (ltb z.freshness 64) _ (λ s. ltb (byte s 0) z.atoms && ltb (word s 1) z.nodes) (λ s q. rw q) (λ s q. rw q)
       (λ s r w l. rw (field_first_byte t b w (omega arith), field_middle_two t b w (omega arith)))
 
-  pub assumption_size : tag_in (eight t) ≡ 0x22 → cond (assumption_good z (eight t)) 5 0 ≡ good_size z t
+  pub assumption_size : tag_in (eight t) ≡ 0x22 → cond (assumption_good z (eight t)) (Some 5) None ≡ good_size z t
   unfolding fault base_tags length_fits item room there
   assumption_size e =
       sized_as 0x22 2 (omega arith) e true _ (λ s. ltb (byte s 0) z.atoms && ltb (byte s 1) z.variables) (λ s q. rw q) (λ s q. rw q)
       (λ s r w l. rw (field_first_byte t b w (omega arith), field_second_byte t b w (omega arith)))
 
-  pub protection_size : tag_in (eight t) ≡ 0x30 → cond (protection_good z (eight t)) 4 0 ≡ good_size z t
+  pub protection_size : tag_in (eight t) ≡ 0x30 → cond (protection_good z (eight t)) (Some 4) None ≡ good_size z t
   unfolding fault base_tags length_fits item room there
   protection_size e =
       sized_as 0x30 1 (omega arith) e true _ (λ s. ltb (byte s 0) z.variables) (λ s q. rw q) (λ s q. rw q)

@@ -5,6 +5,10 @@ use mathlib.Core.Path.{◌≡◌, refl, sym, ◌∙◌, ap, subst, subst₂}
 use mathlib.Core.List.{List}
 use lib.ListN.{length, drop, length-drop}
 use lib.Seq.{drop-drop, drop-length}
+use Rattle.std.specs.Prelude.{Some, None, Result, Ok, Err}
+use Rattle.numbers.specs.Numbers.{given_of}
+use Rattle.numbers.specs.declared.Reason.{Reason}
+use Rattle.numbers.specs.declared.Refusal.{Refusal}
 use borrow.Author.Tests.{eq-eqb}
 use Rattle.field.specs.Field.{Field, cut, whole, front, Bytes}
 use Rattle.field.specs.Word.{eight}
@@ -23,7 +27,7 @@ use Rattle.reader.specs.Noting.{counted, RowFor, Headed}
 use Rattle.reader.specs.Told.{told, HeldIn, read_on, note_on, FieldsRead}
 use Rattle.reader.specs.Found.{sized_by, good_size, said_at, refusal_in, refusal_at}
 use Rattle.reader.specs.Onward.{Onward}
-use Rattle.reader.specs.declared.Reading.TheVariants.{Read, Refused}
+use Rattle.reader.proofs.Keeping.{none_some}
 use Rattle.reader.proofs.OneField.{field_sound, field_faulty, cut_field, no_field}
 use Rattle.reader.proofs.Holding.{all_in_more, noted_held}
 use Rattle.reader.proofs.Stepping.{good_field}
@@ -72,48 +76,49 @@ module _ {s : List ℕ} {head : Counts} {start : ReaderTables} {o : ℕ} {c : Co
 
   -- ---- at the end of the bytes, and at a field that is refused
 
-  pub all_read : o ≡ length s → FieldsRead s head start (Read c) t
+  pub all_read : o ≡ length s → FieldsRead s head start (Ok c) t
   all_read e =
       let k = no_field base_tags w.problem o (drop o s) (rw e (drop-length s)) in
       let r = w.same_reading ∙ k.0 in
       record {
-        the_answer = ap Read w.counts ∙ sym (ap told r);
+        the_answer = ap Ok w.counts ∙ sym (ap told r);
         the_tables = sym (w.same_tables ∙ k.1 t);
         is_held = λ p h q. subst (HeldIn s t) (same_problem (sym r ∙ q)) (w.holds h);
       }
 
-  refused_as : (n : ℕ)
+  refused_as : (n : ℕ) {f : Refusal} → given_of f ≡ record { number = n; place = o }
       → (read_on base_tags w.problem o (drop o s) ≡ unreadable n o) × ((u : ReaderTables) → note_on base_tags w.problem o (drop o s) u ≡ u)
-      → FieldsRead s head start (told (unreadable n o)) t
-  refused_as n k =
+      → FieldsRead s head start (Err f) t
+  refused_as n g k =
       let r = w.same_reading ∙ k.0 in
       record {
-        the_answer = sym (ap told r);
+        the_answer = ap Err g ∙ sym (ap told r);
         the_tables = sym (w.same_tables ∙ k.1 t);
         is_held = λ p h q. absurd (not_read n o p (sym r ∙ q));
       }
 
-  refused_in : (x : Field) → front (drop o s) ≡ x → o < length s → good_size (sized_by c) (drop o s) ≡ 0
-      → FieldsRead s head start (Refused (refusal_in (sized_by c) o x)) t
+  refused_in : (x : Field) {f : Refusal} → front (drop o s) ≡ x → o < length s → good_size (sized_by c) (drop o s) ≡ None
+      → given_of f ≡ refusal_in (sized_by c) o x → FieldsRead s head start (Err f) t
   unfolding good_size
-  refused_in cut e l z = refused_as 3 (cut_field base_tags w.problem o (drop o s) (omega (arith, length-drop o s)) e)
-  refused_in (whole tag body rest) e l z =
+  refused_in cut e l z g = refused_as 3 g (cut_field base_tags w.problem o (drop o s) (omega (arith, length-drop o s)) e)
+  refused_in (whole tag body rest) e l z g =
       let n = fault base_tags (sized_by c) tag body in
-      let bad : n ≡ 0 → ⊥ = λ q. let x = rw (e, eq-eqb n 0 q) at z in omega arith in
-      refused_as n
+      let bad : n ≡ 0 → ⊥ = λ q. none_some refl (sym (rw (e, eq-eqb n 0 q) at z)) in
+      refused_as n g
       (field_faulty base_tags w.problem o (drop o s) tag n body rest e (ap (λ y. fault base_tags y tag body) (sym the_sizes)) bad)
 
-  pub refused_here : o < length s → good_size (sized_by c) (drop o s) ≡ 0 → FieldsRead s head start (Refused (refusal_at (sized_by c) o (drop o s))) t
+  pub refused_here : {f : Refusal} → o < length s → good_size (sized_by c) (drop o s) ≡ None
+      → given_of f ≡ refusal_at (sized_by c) o (drop o s) → FieldsRead s head start (Err f) t
   unfolding refusal_at
   refused_here = refused_in (front (drop o s)) refl
 
   -- ---- a field without fault
 
-  pub again : {r : ℕ} {u : ReaderTables} → Bytes s → r ≡ good_size (sized_by c) (drop o s) → (r ≡ 0 → ⊥)
+  pub again : {r : ℕ} {u : ReaderTables} → Bytes s → good_size (sized_by c) (drop o s) ≡ Some r
       → u ≡ noted (said_at (drop o s)) (eight (drop o s)) o c t → RowFor (said_at (drop o s)) c t
       → Onward s head start (o + r) (counted (said_at (drop o s)) c) u
-  again {r} {u} b q n e row =
-      let f = good_field (sized_by c) (drop o s) (λ x. n (q ∙ x)) in
+  again {r} {u} b q e row =
+      let f = good_field (sized_by c) (drop o s) q in
       let tag = f.tag in
       let body = f.body in
       let i = item tag body in
@@ -121,7 +126,7 @@ module _ {s : List ℕ} {head : Counts} {start : ReaderTables} {o : ℕ} {c : Co
       let none : fault base_tags (sizes p) tag body ≡ 0 = ap (λ y. fault base_tags y tag body) (sym the_sizes) ∙ f.no_fault in
       let sound = faultless base_tags (sizes p) tag body none in
       let there = stands (drop o s) tag body f.rest f.stands_there in
-      let size : 3 + length body ≡ r = sym (q ∙ f.the_size) in
+      let size : 3 + length body ≡ r = let x = f.the_size in cc in
       let rest : f.rest ≡ drop (o + r) s = there.the_rest ∙ (drop-drop (3 + length body) o s ∙ ap (λ k. drop (o + k) s) size) in
       let more : Readable (add p o i) = kept p o i w.readable sound.has_room sound.all_there in
       let goes = field_sound base_tags p o (drop o s) tag body f.rest f.stands_there none in
@@ -147,7 +152,7 @@ module _ {s : List ℕ} {head : Counts} {start : ReaderTables} {o : ℕ} {c : Co
         holds = λ h.
             subst (λ x. HeldIn s x (add p o i)) tables
             (noted_held s b p o i t (omega (arith, w.inside, w.short)) w.readable more
-            (subst₂ (λ (x : Said) (d : Counts). RowFor x d t) f.says w.counts row) sound.all_there item_there
+            (subst₂ (λ (x : Result Said Reason) (d : Counts). RowFor x d t) f.says w.counts row) sound.all_there item_there
             (w.holds h));
       }
 

@@ -6,7 +6,10 @@ use mathlib.Core.Bool.{true, false}
 use mathlib.Core.List.{List}
 use lib.ListN.{length}
 use lib.Dec.{eqb, leb, ltb}
-use borrow.Author.Tests.{eqb-true, ltb-true, leb-true}
+use Rattle.std.specs.Prelude.{Option, Some, None, Ok, IsSome}
+use Rattle.numbers.specs.declared.Given.{Given}
+use Rattle.numbers.specs.declared.Refusal.{Refusal}
+use borrow.Author.Tests.{eq-eqb, eqb-true, ltb-true, leb-true}
 use Rattle.names.proofs.Equal.{by_eq}
 use Rattle.sets.proofs.Bits.{by_test}
 use Rattle.problem.proofs.Kept.{one_length}
@@ -21,7 +24,9 @@ use Rattle.says.specs.Told.{said_by}
 use Rattle.says.specs.declared.Said.TheVariants.{Node}
 use Rattle.says.proofs.Saying.{NoNode, no_base_tag}
 use Rattle.reader.specs.Noting.{counted}
-use Rattle.reader.specs.Found.{good_size, node_tag, node_size, other_size, said_at, counted_in}
+use Rattle.reader.specs.Found.{size_if_good, good_size, node_tag, node_size, other_size, said_at, refusal_in, refusal_at, counted_in}
+use Rattle.reader.specs.Told.{refused_by}
+use Rattle.reader.proofs.Keeping.{by_size, none_some}
 
 -- ---- a field that has a size: it is whole and has no fault
 
@@ -31,15 +36,15 @@ pub record GoodField (z : Sizes) (t : List ℕ) : Type 0 where
   pub rest : List ℕ
   pub stands_there : front t ≡ whole tag body rest
   pub no_fault : fault base_tags z tag body ≡ 0
-  pub the_size : good_size z t ≡ 3 + length body
+  pub the_size : good_size z t ≡ Some (3 + length body)
   pub says : said_at t ≡ said_by 0 (item tag body)
 
-pub good_field : (z : Sizes) (t : List ℕ) → (good_size z t ≡ 0 → ⊥) → GoodField z t
+pub good_field : (z : Sizes) (t : List ℕ) {n : ℕ} → good_size z t ≡ Some n → GoodField z t
 unfolding good_size said_at
-good_field z t h = go (front t) refl
+good_field z t {n} h = go (front t) refl
   where
     go : (x : Field) → front t ≡ x → GoodField z t
-    go cut e = absurd (h (rw e))
+    go cut e = absurd (none_some (rw e) h)
     go (whole tag body rest) e =
         by_test (eqb (fault base_tags z tag body) 0)
         (λ q.
@@ -52,7 +57,20 @@ good_field z t h = go (front t) refl
           the_size = rw (e, q);
           says = rw e;
         })
-        (λ q. absurd (h (rw (e, q))))
+        (λ q. absurd (none_some (rw (e, q)) h))
+
+-- One that has none has a fault.
+has_fault : (z : Sizes) (o : ℕ) (t : List ℕ) → good_size z t ≡ None → (refusal_at z o t).number ≡ 0 → ⊥
+unfolding good_size refusal_at
+has_fault z o t = go (front t)
+  where
+    go : (x : Field) → size_if_good z x ≡ None → (refusal_in z o x).number ≡ 0 → ⊥
+    go cut e q = omega arith
+    go (whole tag body rest) e q = none_some refl (sym (rw (eq-eqb (fault base_tags z tag body) 0 q) at e))
+
+pub has_refusal : (z : Sizes) (o : ℕ) (t : List ℕ) (r : Option Refusal) → good_size z t ≡ None → refused_by o r ≡ refusal_at z o t → IsSome r
+has_refusal z o t None e g = absurd (has_fault z o t e (ap (λ (x : Given). x.number) (sym g)))
+has_refusal z o t (Some f) e g = refl
 
 -- ---- tags
 
@@ -105,8 +123,8 @@ by_other_tag P tag known f equation freshness assumption protection =
     absurd (omega arith)))))
 
 -- A field that is no node and has a size is counted by its tag, and there is room for it.
-pub record OtherFound (z : Sizes) (t : List ℕ) (c : Counts) : Type 0 where
-  pub same_size : other_size z t ≡ good_size z t
+pub record OtherFound (z : Sizes) (t : List ℕ) (c : Counts) (n : ℕ) : Type 0 where
+  pub the_size : good_size z t ≡ Some n
   pub few_equations : tag_in (eight t) ≡ 0x20 → z.equations < 64
   pub few_freshness : tag_in (eight t) ≡ 0x21 → z.freshness < 64
   pub counted_so : counted_in (eight t) c ≡ counted (said_at t) c
@@ -121,22 +139,22 @@ module _ (z : Sizes) (t : List ℕ) (b : Bytes t) where
   pub sound : (f : GoodField z t) → Faultless base_tags z f.tag f.body
   sound f = faultless base_tags z f.tag f.body f.no_fault
 
-  no_size : (GoodField z t → ⊥) → good_size z t ≡ 0
-  no_size h = by_eq (good_size z t) 0 (λ e. e) (λ n. absurd (h (good_field z t n)))
+  no_size : (GoodField z t → ⊥) → good_size z t ≡ None
+  no_size h = by_size (good_size z t) (λ e. e) (λ n e. absurd (h (good_field z t e)))
 
   -- It reaches past the end.
-  past_end : length t < 3 + length_in (eight t) → good_size z t ≡ 0
+  past_end : length t < 3 + length_in (eight t) → good_size z t ≡ None
   past_end h =
       no_size (λ f. omega (arith, field_length t b f.stands_there, (stands t f.tag f.body f.rest f.stands_there).fits))
 
-  pub cut_node : length t < 3 + length_in (eight t) → node_size z t ≡ 0
+  pub cut_node : length t < 3 + length_in (eight t) → node_size z t ≡ None
   cut_node h = by_test (node_tag (byte t 0)) (λ e. rw e (past_end h)) (λ e. rw e)
 
-  pub cut_other : length t < 3 + length_in (eight t) → other_size z t ≡ 0
+  pub cut_other : length t < 3 + length_in (eight t) → other_size z t ≡ None
   cut_other h = by_test (node_tag (byte t 0)) (λ e. rw e) (λ e. rw e (past_end h))
 
   -- It is one node too many.
-  pub node_past : 512 ≤ z.nodes → node_size z t ≡ 0
+  pub node_past : 512 ≤ z.nodes → node_size z t ≡ None
   unfolding item room
   node_past h =
       by_test (node_tag (byte t 0))
@@ -150,12 +168,12 @@ module _ (z : Sizes) (t : List ℕ) (b : Bytes t) where
       (λ e. rw e)
 
   -- It is no node; it is none of the others.
-  pub not_node : NoNode (tag_in (eight t)) → node_size z t ≡ 0
+  pub not_node : NoNode (tag_in (eight t)) → node_size z t ≡ None
   not_node n = rw (no_node (subst NoNode (eight_tag t b) n))
 
   pub not_other : (tag_in (eight t) ≡ 0x20 → ⊥) → (tag_in (eight t) ≡ 0x21 → ⊥) → (tag_in (eight t) ≡ 0x22 → ⊥)
       → (tag_in (eight t) ≡ 0x30 → ⊥)
-      → other_size z t ≡ 0
+      → other_size z t ≡ None
   not_other n₀ n₁ n₂ n₃ =
       by_test (node_tag (byte t 0))
       (λ e. rw e)
@@ -168,33 +186,33 @@ module _ (z : Sizes) (t : List ℕ) (b : Bytes t) where
 
   -- ---- fields that have one
 
-  -- A field ends in the bytes that are left.
-  ends_inside : good_size z t ≤ length t
-  ends_inside =
-      by_eq (good_size z t) 0
-      (λ e. omega arith)
-      (λ n.
-      let f = good_field z t n in omega (arith, f.the_size, (stands t f.tag f.body f.rest f.stands_there).fits))
+  -- A field has some bytes, and ends in those that are left.
+  ends_inside : {n : ℕ} → good_size z t ≡ Some n → (0 < n) × (n ≤ length t)
+  ends_inside {n} e =
+      let f = good_field z t e in
+      let size : n ≡ 3 + length f.body = let x = f.the_size in cc in
+      (omega arith, omega (arith, (stands t f.tag f.body f.rest f.stands_there).fits))
 
-  pub node_inside : node_size z t ≤ length t
-  node_inside = by_test (node_tag (byte t 0)) (λ e. rw e ends_inside) (λ e. rw e (omega arith))
+  pub node_inside : {n : ℕ} → node_size z t ≡ Some n → (0 < n) × (n ≤ length t)
+  node_inside h = by_test (node_tag (byte t 0)) (λ e. ends_inside (rw e at h)) (λ e. absurd (none_some refl (rw e at h)))
 
-  pub other_inside : other_size z t ≤ length t
-  other_inside = by_test (node_tag (byte t 0)) (λ e. rw e (omega arith)) (λ e. rw e ends_inside)
+  pub other_inside : {n : ℕ} → other_size z t ≡ Some n → (0 < n) × (n ≤ length t)
+  other_inside h = by_test (node_tag (byte t 0)) (λ e. absurd (none_some refl (rw e at h))) (λ e. ends_inside (rw e at h))
 
-  pub neither : node_size z t ≡ 0 → other_size z t ≡ 0 → good_size z t ≡ 0
+  pub neither : node_size z t ≡ None → other_size z t ≡ None → good_size z t ≡ None
   neither e f = by_test (node_tag (byte t 0)) (λ q. rw q at e) (λ q. rw q at f)
 
-  pub node_found : (node_size z t ≡ 0 → ⊥) → (node_size z t ≡ good_size z t) × (said_at t ≡ Node)
+  pub node_found : {n : ℕ} → node_size z t ≡ Some n → (good_size z t ≡ Some n) × (said_at t ≡ Ok Node)
   unfolding item
   node_found h =
       by_test (node_tag (byte t 0))
       (λ e.
-      let f = good_field z t (λ q. h (rw e q)) in (
-        rw e,
-        f.says ∙ by_node_tag (λ k. said_by 0 (item k f.body) ≡ Node) f.tag (rw (first_is f) e) refl refl refl refl refl refl,
+      let q = rw e at h in
+      let f = good_field z t q in (
+        q,
+        f.says ∙ by_node_tag (λ k. said_by 0 (item k f.body) ≡ Ok Node) f.tag (rw (first_is f) e) refl refl refl refl refl refl,
       ))
-      (λ e. absurd (h (rw e)))
+      (λ e. absurd (none_some refl (rw e at h)))
 
   has_room_for : (f : GoodField z t) (k : ℕ) → tag_in (eight t) ≡ k → room z (item k f.body) ≡ true
   has_room_for f k e = rw (sym (field_tag t b f.stands_there) ∙ e) at (sound f).has_room
@@ -214,15 +232,16 @@ module _ (z : Sizes) (t : List ℕ) (b : Bytes t) where
       rw (q, field_first_byte t b f.stands_there (omega arith)))
       (sound f).right_length e
 
-  pub other_found : (c : Counts) → (other_size z t ≡ 0 → ⊥) → OtherFound z t c
+  pub other_found : (c : Counts) {n : ℕ} → other_size z t ≡ Some n → OtherFound z t c n
   unfolding item room
-  other_found c h =
+  other_found c {n} h =
       by_test (node_tag (byte t 0))
-      (λ e. absurd (h (rw e)))
+      (λ e. absurd (none_some refl (rw e at h)))
       (λ e.
-      let f = good_field z t (λ q. h (rw e q)) in
+      let q = rw e at h in
+      let f = good_field z t q in
       record {
-        same_size = rw e;
+        the_size = q;
         few_equations = λ q. ltb-true z.equations 64 (has_room_for f 0x20 q);
         few_freshness = λ q. ltb-true z.freshness 64 (has_room_for f 0x21 q);
         counted_so = counted_by c f (rw (first_is f) e) (field_tag t b f.stands_there) ∙ ap (λ x. counted x c) (sym f.says);

@@ -1,6 +1,7 @@
 -- What is found out of a field by its first eight bytes as one number, and what becomes of the tables then: what the functions that look at one field
 -- answer for. Definitions alone.
 use Rattle.std.specs.Prelude.{ℕ, ◌+◌, ◌-◌, ◌%◌, ◌<◌, ◌≤◌, ◌≡◌, Bool, true, ◌&&◌, ◌||◌, cond, List, length, set, take, drop, eqb, leb, ltb}
+use Rattle.std.specs.Prelude.{Option, Some, None, Result, Err}
 use Rattle.numbers.specs.declared.Given.{Given}
 use Rattle.sets.specs.Bits.{inserted}
 use Rattle.field.specs.Field.{Field, cut, whole, byte, front}
@@ -9,7 +10,8 @@ use Rattle.problem.specs.Reader.{Sizes, base_tags, item, fault}
 use Rattle.problem.specs.declared.Counts.{Counts}
 use Rattle.says.specs.Told.{below, said_by}
 use Rattle.says.specs.declared.Said.{Said}
-use Rattle.says.specs.declared.Said.TheVariants.{Fault}
+use Rattle.numbers.specs.declared.Reason.{Reason}
+use Rattle.numbers.specs.declared.Reason.TheVariants as reason
 use Rattle.reader.specs.Tables.{ReaderTables, reader_tables, noted}
 use Rattle.reader.specs.Noting.{with, RowFor}
 
@@ -22,30 +24,30 @@ sized_by c = record { atoms = c.atoms; variables = c.variables; nodes = c.nodes;
 abbrev pub with_nodes : Counts → ℕ → Counts
 with_nodes c n = with c n c.equations c.freshness c.protected.0
 
--- The size of the field at the front of some bytes if it is whole and has no fault, and else 0.
-abbrev pub size_if_good : Sizes → Field → ℕ
-size_if_good z cut = 0
-size_if_good z (whole tag s rest) = cond (eqb (fault base_tags z tag s) 0) (3 + length s) 0
+-- The size of the field at the front of some bytes, if it is whole and has no fault.
+abbrev pub size_if_good : Sizes → Field → Option ℕ
+size_if_good z cut = None
+size_if_good z (whole tag s rest) = cond (eqb (fault base_tags z tag s) 0) (Some (3 + length s)) None
 
-unfoldable pub good_size : Sizes → List ℕ → ℕ
+unfoldable pub good_size : Sizes → List ℕ → Option ℕ
 good_size z t = size_if_good z (front t)
 
 -- The six tags of nodes are one after the other. The size if it is a node; if it is none.
 abbrev pub node_tag : ℕ → Bool
 node_tag tag = leb 0x10 tag && leb tag 0x15
 
-abbrev pub node_size : Sizes → List ℕ → ℕ
-node_size z t = cond (node_tag (byte t 0)) (good_size z t) 0
+abbrev pub node_size : Sizes → List ℕ → Option ℕ
+node_size z t = cond (node_tag (byte t 0)) (good_size z t) None
 
-abbrev pub other_size : Sizes → List ℕ → ℕ
-other_size z t = cond (node_tag (byte t 0)) 0 (good_size z t)
+abbrev pub other_size : Sizes → List ℕ → Option ℕ
+other_size z t = cond (node_tag (byte t 0)) None (good_size z t)
 
 -- What it says if it has no fault.
-abbrev pub said_in : Field → Said
-said_in cut = Fault 3
+abbrev pub said_in : Field → Result Said Reason
+said_in cut = Err reason.Cut
 said_in (whole tag s rest) = said_by 0 (item tag s)
 
-unfoldable pub said_at : List ℕ → Said
+unfoldable pub said_at : List ℕ → Result Said Reason
 said_at t = said_in (front t)
 
 -- The number and the place of the refusal of one that is cut or has a fault.
@@ -105,9 +107,9 @@ counted_in w c =
 
 -- ---- what becomes of the tables
 
--- If a test holds, a row of a table is set and the field's size given; if not, the table stays and 0 is given.
-pub record Kept (good : Bool) (size n value r : ℕ) (before after : List ℕ) : Type 0 where
-  pub the_size : r ≡ cond good size 0
+-- If a test holds, a row of a table is set and the field's size given; if not, the table stays and none is given.
+pub record Kept (good : Bool) (size n value : ℕ) (r : Option ℕ) (before after : List ℕ) : Type 0 where
+  pub the_size : r ≡ cond good (Some size) None
   pub the_table : after ≡ cond good (set before n value) before
   pub row : good ≡ true → n < length before
 
@@ -115,20 +117,20 @@ pub record Kept (good : Bool) (size n value r : ℕ) (before after : List ℕ) :
 abbrev pub Seen : List ℕ → Type 0
 Seen t = length t < 8 → 3 + length_in (eight t) ≤ length t
 
--- The field at offset o, whose bytes and those behind it are t, was looked at: its size was given if that is not 0, and it is noted then.
-pub record Stepped (size : ℕ) (t : List ℕ) (o : ℕ) (c : Counts) (before : ReaderTables) (r : ℕ) (after : ReaderTables) : Type 0 where
+-- The field at offset o, whose bytes and those behind it are t, was looked at: if it has a size, that was given, and it is noted.
+pub record Stepped (size : Option ℕ) (t : List ℕ) (o : ℕ) (c : Counts) (before : ReaderTables) (r : Option ℕ) (after : ReaderTables) : Type 0 where
   pub the_size : r ≡ size
-  pub stays : r ≡ 0 → after ≡ before
-  pub goes : (r ≡ 0 → ⊥) → after ≡ noted (said_at t) (eight t) o c before
-  pub row : (r ≡ 0 → ⊥) → RowFor (said_at t) c before
+  pub stays : r ≡ None → after ≡ before
+  pub goes : (n : ℕ) → r ≡ Some n → after ≡ noted (said_at t) (eight t) o c before
+  pub row : (n : ℕ) → r ≡ Some n → RowFor (said_at t) c before
 
 -- As a node, and as a field that is none. The table that is not in hand stays, whatever it holds.
-abbrev pub NodeStepped : List ℕ → ℕ → Counts → List ℕ → List ℕ → ℕ → List ℕ → List ℕ → Type 0
+abbrev pub NodeStepped : List ℕ → ℕ → Counts → List ℕ → List ℕ → Option ℕ → List ℕ → List ℕ → Type 0
 NodeStepped t o c places variables r places' variables' =
     (assumed : List ℕ)
     → Stepped (node_size (sized_by c) t) t o c (reader_tables places assumed variables) r (reader_tables places' assumed variables')
 
-abbrev pub OtherStepped : List ℕ → ℕ → Counts → List ℕ → List ℕ → ℕ → List ℕ → List ℕ → Type 0
+abbrev pub OtherStepped : List ℕ → ℕ → Counts → List ℕ → List ℕ → Option ℕ → List ℕ → List ℕ → Type 0
 OtherStepped t o c places assumed r places' assumed' =
     (variables : List ℕ)
     → Stepped (other_size (sized_by c) t) t o c (reader_tables places assumed variables) r (reader_tables places' assumed' variables)

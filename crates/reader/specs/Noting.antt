@@ -1,5 +1,5 @@
 -- How the code notes what a field says: what it counts, and what it has to find in the tables for it. Definitions alone.
-use Rattle.std.specs.Prelude.{ℕ, ◌+◌, ◌≤◌, ◌<◌, ◌≡◌, length}
+use Rattle.std.specs.Prelude.{ℕ, ◌+◌, ◌≤◌, ◌<◌, ◌≡◌, length, Result, Ok, Err}
 use Rattle.sets.specs.Bits.{inserted}
 use Rattle.problem.specs.Problem.{Problem}
 use Rattle.problem.specs.Reader.{started}
@@ -8,7 +8,8 @@ use Rattle.problem.specs.Told.{counts_of}
 use Rattle.reader.specs.Tables.{ReaderTables}
 use Rattle.problem.specs.declared.Counts.{Counts}
 use Rattle.says.specs.declared.Said.{Said}
-use Rattle.says.specs.declared.Said.TheVariants.{Node, Equation, Freshness, Assumption, Protection, Fault}
+use Rattle.says.specs.declared.Said.TheVariants.{Node, Equation, Freshness, Assumption, Protection}
+use Rattle.numbers.specs.declared.Reason.{Reason}
 
 -- A problem's numbers with these of its fields, and these variables protected.
 abbrev pub with : Counts → ℕ → ℕ → ℕ → ℕ → Counts
@@ -24,22 +25,22 @@ with c nodes equations freshness protected =
     }
 
 -- What a field says is counted. That the numbers are then those of the problem with the field is a law (proofs/Onward.antt).
-abbrev pub counted : Said → Counts → Counts
-counted Node c = with c (c.nodes + 1) c.equations c.freshness c.protected.0
-counted Equation c = with c c.nodes (c.equations + 1) c.freshness c.protected.0
-counted Freshness c = with c c.nodes c.equations (c.freshness + 1) c.protected.0
-counted (Assumption a X) c = c
-counted (Protection X) c = with c c.nodes c.equations c.freshness (inserted 64 c.protected.0 X.0)
-counted (Fault f) c = c
+abbrev pub counted : Result Said Reason → Counts → Counts
+counted (Ok Node) c = with c (c.nodes + 1) c.equations c.freshness c.protected.0
+counted (Ok Equation) c = with c c.nodes (c.equations + 1) c.freshness c.protected.0
+counted (Ok Freshness) c = with c c.nodes c.equations (c.freshness + 1) c.protected.0
+counted (Ok (Assumption a X)) c = c
+counted (Ok (Protection X)) c = with c c.nodes c.equations c.freshness (inserted 64 c.protected.0 X.0)
+counted (Err r) c = c
 
 -- The tables have a row for it.
-abbrev pub RowFor : Said → Counts → ReaderTables → Type 0
-RowFor Node c t = (c.nodes < length t.places) × (c.nodes < length t.variables)
-RowFor Equation c t = 512 + c.equations < length t.places
-RowFor Freshness c t = 576 + c.freshness < length t.places
-RowFor (Assumption a X) c t = X.0 < length t.assumed
-RowFor (Protection X) c t = Unit {0}
-RowFor (Fault f) c t = Unit {0}
+abbrev pub RowFor : Result Said Reason → Counts → ReaderTables → Type 0
+RowFor (Ok Node) c t = (c.nodes < length t.places) × (c.nodes < length t.variables)
+RowFor (Ok Equation) c t = 512 + c.equations < length t.places
+RowFor (Ok Freshness) c t = 576 + c.freshness < length t.places
+RowFor (Ok (Assumption a X)) c t = X.0 < length t.assumed
+RowFor (Ok (Protection X)) c t = Unit {0}
+RowFor (Err r) c t = Unit {0}
 
 -- The problem that has a head and nothing else yet.
 abbrev pub started_by : Counts → Problem

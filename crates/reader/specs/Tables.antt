@@ -1,5 +1,5 @@
 -- What the reader leaves in the tables that it is lent: for every input, refused or not, and whatever stood in them before. Definitions alone.
-use Rattle.std.specs.Prelude.{ℕ, zero, suc, ◌+◌, Bool, cond, List, [], ◌∷◌, ◌++◌, length, get_or, set, drop, replicate, leb}
+use Rattle.std.specs.Prelude.{ℕ, zero, suc, ◌+◌, Bool, cond, List, [], ◌∷◌, ◌++◌, length, get_or, set, drop, replicate, leb, Result, Ok, Err}
 use Rattle.sets.specs.Bits.{inserted}
 use Rattle.field.specs.Field.{Field, cut, whole, byte, front}
 use Rattle.field.specs.Word.{eight}
@@ -12,7 +12,8 @@ use Rattle.problem.specs.Told.{counts_of}
 use Rattle.variables.specs.Variables.{variables_of}
 use Rattle.problem.specs.declared.Counts.{Counts}
 use Rattle.says.specs.declared.Said.{Said}
-use Rattle.says.specs.declared.Said.TheVariants.{Node, Equation, Freshness, Assumption, Protection, Fault}
+use Rattle.says.specs.declared.Said.TheVariants.{Node, Equation, Freshness, Assumption, Protection}
+use Rattle.numbers.specs.declared.Reason.{Reason}
 
 -- What is kept of nodes, equations and freshness fields; for each variable the set of atoms assumed fresh for it; for each node the set of its variables.
 pub record ReaderTables : Type 0 where
@@ -30,14 +31,14 @@ node_noted n w o t =
 
 -- What a field at offset o says, whose first eight bytes are w, is noted behind what was counted so far: the bytes behind those of its kind, or an atom in
 -- the set of a variable.
-abbrev pub noted : Said → ℕ → ℕ → Counts → ReaderTables → ReaderTables
-noted Node w o c t = node_noted c.nodes w o t
-noted Equation w o c t = reader_tables (set t.places (512 + c.equations) w) t.assumed t.variables
-noted Freshness w o c t = reader_tables (set t.places (576 + c.freshness) w) t.assumed t.variables
-noted (Assumption a X) w o c t =
+abbrev pub noted : Result Said Reason → ℕ → ℕ → Counts → ReaderTables → ReaderTables
+noted (Ok Node) w o c t = node_noted c.nodes w o t
+noted (Ok Equation) w o c t = reader_tables (set t.places (512 + c.equations) w) t.assumed t.variables
+noted (Ok Freshness) w o c t = reader_tables (set t.places (576 + c.freshness) w) t.assumed t.variables
+noted (Ok (Assumption a X)) w o c t =
     reader_tables t.places (set t.assumed X.0 (inserted 32 (get_or t.assumed X.0 0) a.0)) t.variables
-noted (Protection X) w o c t = t
-noted (Fault f) w o c t = t
+noted (Ok (Protection X)) w o c t = t
+noted (Err r) w o c t = t
 
 -- A fault leaves the tables as they are.
 abbrev pub stopped : ℕ → ReaderTables → ReaderTables → ReaderTables

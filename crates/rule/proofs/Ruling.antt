@@ -6,9 +6,7 @@ use mathlib.Core.Bool.{Bool, true, false, not, cond}
 use mathlib.Core.List.{List, [], ◌∷◌}
 use lib.Dec.{T, eqb}
 use mir.Val.{has_key}
-use borrow.Author.Tests.{eq-eqb, ne_eqb}
 use borrow.Enum.Refused.{Among, opened}
-use types.Run.{OneOf}
 use denote.Enum.Declared.{tag_of}
 use Rattle.names.specs.declared.NodeId.{NodeId}
 use Rattle.names.specs.declared.Variable.{Variable}
@@ -67,40 +65,14 @@ use Rattle.side.proofs.Forms.{tag_kind, not_kind, compound}
 
 -- ---- what the code's tests tell
 
-pub cond_equal : (m n : ℕ) (x y : Act) → m ≡ n → x ≡ cond (eqb m n) x y
-cond_equal m n x y e = rw (eq-eqb m n e)
-
-pub cond_other : (m n : ℕ) (x y : Act) → m ≢ n → y ≡ cond (eqb m n) x y
-cond_other m n x y e = rw (ne_eqb m n e)
-
-pub cond_taken : (b : Bool) (x y : Act) → b ≡ true → x ≡ cond b x y
-cond_taken b x y e = rw e
-
-pub cond_left : (b : Bool) (x y : Act) → b ≡ false → y ≡ cond b x y
-cond_left b x y e = rw e
-
-module _ (protected : ℕ → Bool) (x y : Variable) (i j : Bool) where
-  pub either_same : x.0 ≡ y.0 → Same x ≡ either_act protected x y i j
-  either_same e = rw (eq-eqb x.0 y.0 e)
-
-  pub either_right : x.0 ≢ y.0 → protected x.0 ≡ true → unless_protected (protected y.0) i (BindRight y) ≡ either_act protected x y i j
-  either_right n p = rw (ne_eqb x.0 y.0 n, p)
-
-  pub either_left : x.0 ≢ y.0 → protected x.0 ≡ false → unless_inside j (BindLeft x) ≡ either_act protected x y i j
-  either_left n p = rw (ne_eqb x.0 y.0 n, p)
-
--- The left form's tag is k, and the right one's is another.
-pub clashing : (P Q : Table) (v w : Form) (k : ℕ) (others : List ℕ) → T (not (has_key others k)) → tag_of the_type v ≡ k → OneOf others (tag_of the_type w)
-    → Compounds P Q v w Clash
-clashing P Q v w k others n e h = different (λ q. not_kind others k n w h (sym q ∙ sym (tag_kind v) ∙ e))
-
--- Both of a tag as an arm that takes the other forms knows it.
+-- A form whose tag is one of some, as an arm that takes the other forms knows it.
 pub compound_among : (w : Form) → Among (0 ∷ 1 ∷ 2 ∷ 3 ∷ 4 ∷ []) (tag_of the_type w) → Compound w
 compound_among w h = compound w (opened h)
 
+-- The left form's tag is k, and the right one's is another.
 pub clashing_among : (P Q : Table) (v w : Form) (k : ℕ) (others : List ℕ) → T (not (has_key others k)) → tag_of the_type v ≡ k
     → Among others (tag_of the_type w) → Compounds P Q v w Clash
-clashing_among P Q v w k others n e h = clashing P Q v w k others n e (opened h)
+clashing_among P Q v w k others n e h = different (λ q. not_kind others k n w (opened h) (sym q ∙ sym (tag_kind v) ∙ e))
 
 -- By which of the two sides is a suspension.
 module _ (A : ℕ) (protected : ℕ → Bool) (bound : ℕ) (made : List (List ℕ)) (variables_of_nodes : List ℕ) (l r : HeldSide) (act : Act) where

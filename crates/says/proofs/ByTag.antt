@@ -6,13 +6,14 @@ use mathlib.Core.List.{List}
 use lib.ListN.{length, take, drop}
 use lib.Dec.{eqb, ltb}
 use borrow.Author.Tests.{eq-eqb, ne_eqb, le-leb, lt-leb}
+use Rattle.std.specs.Prelude.{Err}
 use Rattle.field.specs.Field.{byte, word}
 use Rattle.field.proofs.Standing.{tail_part}
 use Rattle.permutation.specs.Swaps.{swaps_in}
 use Rattle.problem.specs.Problem.{unit_form, atom_form, abstraction_form, pair_form, application_form, suspension_form}
 use Rattle.problem.specs.Reader.{node, equation, freshness, assumption, protection, Sizes, base_tags, length_fits, item, room, there, fault}
 use Rattle.says.specs.Told.{below, said_by, said_of}
-use Rattle.says.specs.declared.Said.TheVariants.{Fault}
+use Rattle.numbers.specs.declared.Reason.TheVariants.{WrongLength}
 use Rattle.says.proofs.Saying.{suspended}
 
 abbrev pub checked : Bool → Bool → Bool → ℕ
@@ -47,11 +48,11 @@ module _ (z : Sizes) (s : List ℕ) where
   application_said = simp or-false
 
   -- A suspension's length is odd and at most 65, and its swaps' atoms can be looked at byte by byte.
-  pub suspension_even : (length s % 2 ≡ 1 → ⊥) → said_of z 0x15 s ≡ Fault 5
+  pub suspension_even : (length s % 2 ≡ 1 → ⊥) → said_of z 0x15 s ≡ Err WrongLength
   unfolding said_of fault base_tags length_fits
   suspension_even e = rw (ne_eqb (length s % 2) 1 e)
 
-  pub suspension_long : 65 < length s → said_of z 0x15 s ≡ Fault 5
+  pub suspension_long : 65 < length s → said_of z 0x15 s ≡ Err WrongLength
   unfolding said_of fault base_tags length_fits
   suspension_long h = rw (lt-leb (length s) 65 h, and-false)
 

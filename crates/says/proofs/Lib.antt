@@ -1,3 +1,2 @@
 pub mod ByTag
-pub mod Greatest
 pub mod Saying

@@ -1,14 +1,14 @@
 -- What a field says, as the code finds it out: the atoms of swaps, a tag that is none of those known, and the fault.
-use Prim.Native.Nat.{ℕ, zero, suc, ◌%◌}
+use Prim.Native.Nat.{ℕ, ◌%◌}
 use native.Mathlib.Omega.{arith}
 use mathlib.Core.Path.{◌≡◌, refl, ap}
-use mathlib.Core.Bool.{false, ◌&&◌}
+use mathlib.Core.Bool.{Bool, true, false, not, ◌&&◌, cond}
 use mathlib.Core.List.{List, [], ◌∷◌}
 use lib.ListN.{length, drop}
 use lib.Dec.{ltb}
 use borrow.Author.Tests.{ne_eqb}
 use Rattle.permutation.specs.Swaps.{swaps_in}
-use Rattle.problem.specs.Reader.{Item, node, equation, freshness, assumption, protection, Sizes, base_tags, swaps_there, item, fault}
+use Rattle.problem.specs.Reader.{Item, node, equation, freshness, assumption, protection, Sizes, base_tags, swaps_there, length_fits, item, room, there, fault}
 use Rattle.says.specs.Told.{below, said_by, said_of, fault_by}
 
 -- In pairs or one by one: the atoms of swaps are there if every byte is below the number of atoms.
@@ -53,15 +53,25 @@ no_base_tag tag n =
       ne_eqb tag 0x30 n.no_protection,
     )
 
--- What is said is at fault as the field is.
-said_fault : (k : ℕ) (i : Item) → fault_by (said_by k i) ≡ k
-said_fault zero (node f) = refl
-said_fault zero (equation e) = refl
-said_fault zero (freshness a n) = refl
-said_fault zero (assumption a X) = refl
-said_fault zero (protection X) = refl
-said_fault (suc k) i = refl
+-- The number of the first test that fails.
+abbrev pub first_fault : Bool → Bool → Bool → Bool → ℕ
+first_fault known fits roomy named = cond (not known) 4 (cond (not fits) 5 (cond (not roomy) 6 (cond (not named) 7 0)))
+
+-- What is said is at fault as the field is: a fault is 4, 5, 6 or 7, or there is none.
+said_none : (i : Item) → fault_by (said_by 0 i) ≡ 0
+said_none (node f) = refl
+said_none (equation e) = refl
+said_none (freshness a n) = refl
+said_none (assumption a X) = refl
+said_none (protection X) = refl
+
+said_fault : (known fits roomy named : Bool) (i : Item) → fault_by (said_by (first_fault known fits roomy named) i) ≡ first_fault known fits roomy named
+said_fault false fits roomy named i = refl
+said_fault true false roomy named i = refl
+said_fault true true false named i = refl
+said_fault true true true false i = refl
+said_fault true true true true i = said_none i
 
 pub fault_said : (z : Sizes) (tag : ℕ) (s : List ℕ) → fault_by (said_of z tag s) ≡ fault base_tags z tag s
-unfolding said_of
-fault_said z tag s = said_fault (fault base_tags z tag s) (item tag s)
+unfolding said_of fault
+fault_said z tag s = said_fault (base_tags tag) (length_fits tag (length s)) (room z (item tag s)) (there z (item tag s)) (item tag s)

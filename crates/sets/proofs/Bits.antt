@@ -395,26 +395,46 @@ and_pred (suc k) w p h =
     let low : removed w (lowest (suc k) w) ≡ removed w (suc j) = ap (removed w) (lowest_even k w e) in
     omega (arith, and_step w (w - 1), removed_half w j, removed_odd w j))
 
--- ---- each operation as a word of k bits has it
+-- ---- each operation on a set of k numbers, in a word of n bits
 
-pub below_shift : (k n : ℕ) → n < k → (1 * 2 ^ n) % 2 ^ k - 1 ≡ all_below k n
+pub below_shift : (n i : ℕ) → i < n → (1 * 2 ^ i) % 2 ^ n - 1 ≡ all_below n i
 unfolding all_below
-below_shift k n h = let m : min n k ≡ n = omega arith in rw (m, shifted_one k n h)
+below_shift n i h = let m : min i n ≡ i = omega arith in rw (m, shifted_one n i h)
 
-pub below_full : (k n : ℕ) → k ≤ n → 2 ^ k - 1 ≡ all_below k n
+pub below_full : (n i : ℕ) → n ≤ i → 2 ^ n - 1 ≡ all_below n i
 unfolding all_below
-below_full k n h = let m : min n k ≡ k = omega arith in rw m
+below_full n i h = let m : min i n ≡ n = omega arith in rw m
 
-pub shifted_positive : (k i : ℕ) → i < k → 1 ≤ (1 * 2 ^ i) % 2 ^ k
-shifted_positive k i h = rw (shifted_one k i h) (pow_pos i)
+-- what is below the lesser of i and k
+pub below_least : (n k i : ℕ) {w m : ℕ} → k ≤ n → w ≡ k → m ≡ min i w → all_below n m ≡ all_below k i
+unfolding all_below
+below_least n k i {m = m} l p e = let s : min m n ≡ min i k = omega arith in rw s
+
+pub shifted_positive : (n i : ℕ) → i < n → 1 ≤ (1 * 2 ^ i) % 2 ^ n
+shifted_positive n i h = rw (shifted_one n i h) (pow_pos i)
+
+pub or_bit : (n k w i : ℕ) → k ≤ n → i < k → bit_or w ((1 * 2 ^ i) % 2 ^ n) ≡ inserted k w i
+unfolding union
+or_bit n k w i l h = rw (shifted_one n i (omega arith), inserted_within k w i h)
 
 pub or_shift : (k w i : ℕ) → i < k → bit_or w ((1 * 2 ^ i) % 2 ^ k) ≡ inserted k w i
-unfolding union
-or_shift k w i h = rw (shifted_one k i h, inserted_within k w i h)
+or_shift k w i h = or_bit k k w i (omega arith) h
 
-pub and_not_shift : (k w i : ℕ) → w < 2 ^ k → i < k → bit_and w ((2 ^ k - 1) - (1 * 2 ^ i) % 2 ^ k) ≡ removed w i
+pub and_not_shift : (n w i : ℕ) → w < 2 ^ n → i < n → bit_and w ((2 ^ n - 1) - (1 * 2 ^ i) % 2 ^ n) ≡ removed w i
 unfolding removed
-and_not_shift k w i l h = rw (shifted_one k i h) (and_not k w (2 ^ i) l (pow-lt h))
+and_not_shift n w i l h = rw (shifted_one n i h) (and_not n w (2 ^ i) l (pow-lt h))
+
+pub lowest_of_none : (k : ℕ) → lowest k 0 ≡ k
+lowest_of_none zero = omega (arith, lowest_le 0 0)
+lowest_of_none (suc k) = lowest_even k 0 refl ∙ ap suc (lowest_of_none k)
+
+pub lowest_wider : (n k w : ℕ) → k ≤ n → 0 < w → w < 2 ^ k → lowest n w ≡ lowest k w
+lowest_wider n zero w l p h = absurd (omega arith)
+lowest_wider zero (suc k) w l p h = absurd (omega arith)
+lowest_wider (suc n) (suc k) w l p h =
+    by_odd w (λ e. lowest_odd n w e ∙ sym (lowest_odd k w e)) λ e.
+    lowest_even n w e ∙ ap suc (lowest_wider n k (w / 2) (omega arith) (omega arith) (omega (arith, pow-suc 2 k)))
+    ∙ sym (lowest_even k w e)
 
 pub removed_no_member : (k w i : ℕ) → w < 2 ^ k → member w i ≡ false → removed w i ≡ w
 removed_no_member k w i h m =

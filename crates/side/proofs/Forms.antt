@@ -10,6 +10,7 @@ use lib.Dec.{T}
 use mir.Val.{has_key}
 use types.Run.{OneOf, miss}
 use denote.Enum.Declared.{tag_of}
+use Rattle.names.specs.declared.Variable.{Variable}
 use Rattle.problem.specs.Problem.{Node, unit_form, atom_form, abstraction_form, pair_form, application_form, suspension_form}
 use Rattle.problem.specs.Look.{form_told, Suspended}
 use Rattle.problem.specs.declared.Form.{Form}
@@ -32,6 +33,14 @@ not_kind tags k n w h e = miss tags k n (subst (OneOf tags) (tag_kind w ∙ e) h
 
 pub compound : (w : Form) → OneOf (0 ∷ 1 ∷ 2 ∷ 3 ∷ 4 ∷ []) (tag_of the_type w) → Compound w
 compound = not_kind (0 ∷ 1 ∷ 2 ∷ 3 ∷ 4 ∷ []) 5 tt
+
+pub no_suspension : (w : Form) → ((x : Variable) → w ≡ Suspension x → ⊥) → Compound w
+no_suspension Unit h k = omega arith
+no_suspension (Atom a) h k = omega arith
+no_suspension (Abstraction a n) h k = omega arith
+no_suspension (Pair l r) h k = omega arith
+no_suspension (Application f n) h k = omega arith
+no_suspension (Suspension x) h k = h x refl
 
 -- ---- a suspension, or none
 

@@ -1,13 +1,15 @@
 -- The laws of resolving: what one turn of the loop does is what one turn of the definition does.
-use Prim.Native.Nat.{ℕ, zero, suc, ◌-◌, ◌≤◌, ◌<◌}
+use Prim.Native.Nat.{ℕ, zero, suc, ◌+◌, ◌-◌, ◌≤◌, ◌<◌}
 use native.Mathlib.Omega.{arith}
 use mathlib.Core.Path.{◌≡◌, refl, sym, ◌∙◌, ap}
 use mathlib.Core.Logic.{◌≢◌}
-use mathlib.Core.Bool.{Bool, true, false}
+use mathlib.Core.Bool.{Bool, false}
 use mathlib.Core.List.{List, [], ◌∷◌, map}
 use mathlib.Core.Option.{none, some}
 use lib.ListN.{length, length-map}
+use Rattle.std.specs.Prelude.{Option, Some, None}
 use Rattle.names.specs.declared.NodeId.{NodeId}
+use Rattle.names.specs.declared.Variable.{Variable}
 use Rattle.permutation.specs.Swaps.{Swaps, swaps_in}
 use Rattle.permutation.specs.Table.{Table, image, identity, after, of_swaps}
 use Rattle.permutation.specs.Store.{table, of_table}
@@ -22,11 +24,11 @@ use Rattle.problem.specs.declared.Form.{Form}
 use Rattle.problem.specs.declared.Form.TheVariants.{Unit, Atom, Abstraction, Pair, Application, Suspension}
 use Rattle.run.specs.Meaning.{Side, Binding}
 use Rattle.run.specs.Run.{Ground, permuted, top, under, replaced, resolved_in, resolved}
-use Rattle.bindings.specs.Bindings.{Bindings, bindings_of, Keeps, found_at, value_in, side_of, LookedUp}
-use Rattle.bindings.specs.declared.Found.{Found}
+use Rattle.bindings.specs.Bindings.{Bindings, node_of, bindings_of, Keeps, found_at, value_in, side_of, LookedUp, NodesThere}
 use Rattle.bindings.specs.declared.Value.{Value}
-use Rattle.bindings.proofs.Bindings.{value_of_set, value_in_bound, value_in_unbound, length_bindings_of}
-use Rattle.side.specs.Side.{ground_in, side_at, whole_of, Compound, value_told, is_bound, Valued, SideResolved}
+use Rattle.bindings.proofs.Laws.{value_of_set, length_bindings_of}
+use Rattle.side.specs.Side.{ground_in, side_at, side_held, whole_of, Compound, value_told, is_bound, Valued, SideResolved}
+use Rattle.side.specs.declared.Side.{Side as HeldSide}
 use Rattle.side.proofs.Forms.{compound_valueless}
 
 -- ---- a suspension under a side's images
@@ -60,24 +62,29 @@ length_whole s A P n = length_after P (of_swaps A (own_swaps (form_now s n))) �
 
 -- ---- what is found of a form
 
-pub valued_suspension : (t : Bindings) (bound X : ℕ) (r : Found) → LookedUp t bound X r → Valued t bound (Suspension (record { 0 = X })) r
+-- The value of a variable that is looked up has a node that is there.
+found_there : (t : Bindings) (bound X n : ℕ) → NodesThere n t.made bound → (v : Value) → found_at t bound X ≡ Some v → v.node.0 < n
 unfolding found_at
-valued_suspension t bound X r l =
+found_there t bound X n nodes v e =
+    by_member bound X
+    (λ m. let q = rw m at e in let node : record { 0 = node_of t.made X } ≡ v.node = cc in rw (← node) (nodes X m))
+    (λ m. absurd (let q = rw m at e in let y : ◌≡◌ {A = ℕ} 0 1 = cc in omega arith))
+
+pub valued_suspension : {t : Bindings} {bound : ℕ} {x : Variable} {r : Option Value} → LookedUp t bound x.0 r → Valued t bound (Suspension x) r
+valued_suspension {t} {bound} {x} l =
     record {
       value = l.value;
-      suspends = λ b. refl;
-      there = λ n nodes b. by_member bound X
-          (λ m. let e = rw m at l.content in rw e (nodes X m))
-          (λ m. absurd (let e = rw m at l.content in let z : true ≡ false = sym b ∙ rw e in let y : ◌≡◌ {A = ℕ} 0 1 = cc in omega arith));
+      suspends = λ v e. refl;
+      there = λ n nodes v e. found_there t bound x.0 n nodes v (sym l.content ∙ e);
     }
 
-pub valued_other : (t : Bindings) (bound : ℕ) (w : Form) (v : Value) → Compound w → Valued t bound w (record { bound = false; value = v })
+pub valued_other : {t : Bindings} {bound : ℕ} {w : Form} → Compound w → Valued t bound w None
 unfolding value_in
-valued_other t bound w v h =
+valued_other {t} {w = w} h =
     record {
       value = λ A s k i. compound_valueless (bindings_of A t k) w h;
-      suspends = λ b. absurd (let y : ◌≡◌ {A = ℕ} 0 1 = cc in omega arith);
-      there = λ n nodes b. absurd (let y : ◌≡◌ {A = ℕ} 0 1 = cc in omega arith);
+      suspends = λ v e. absurd (let y : ◌≡◌ {A = ℕ} 0 1 = cc in omega arith);
+      there = λ n nodes v e. absurd (let y : ◌≡◌ {A = ℕ} 0 1 = cc in omega arith);
     }
 
 -- ---- one turn of the definition
@@ -120,52 +127,56 @@ resolved_zero g bs x k e = rw e
 
 -- ---- the loop
 
--- With so many replacements left, what the side is now resolves to what the first one does with all of them.
-abbrev pub Kept : List ℕ → ℕ → Bindings → ℕ → ℕ → Side → Side → ℕ → Type 0
-Kept s A t bound k before x left =
-    (f : ℕ → Bool) → Keeps t.made k bound
-    → resolved_in k (ground_in s f) (bindings_of A t k) before ≡ resolved_in left (ground_in s f) (bindings_of A t k) x
+-- With so many replacements left, what the side is now resolves to what the first one does with all of them; and it says what stands at its node.
+pub record Kept (s : List ℕ) (A : ℕ) (t : Bindings) (bound k : ℕ) (before : Side) (x : HeldSide) (left : ℕ) : Type 0 where
+  pub resolves : (f : ℕ → Bool) → Keeps t.made k bound
+      → resolved_in k (ground_in s f) (bindings_of A t k) before ≡ resolved_in left (ground_in s f) (bindings_of A t k) (side_held A x)
+  pub form : x.form ≡ form_told (form_now s x.node.0)
+  pub there : x.node.0 < length (problem_of s).nodes
 
-module _ (s : List ℕ) (A : ℕ) (t : Bindings) (bound k : ℕ) (before : Side) (p : Permutation) (at : NodeId) (left : ℕ)
-    (kept : Kept s A t bound k before (side_at A p at) left) where
-  finish : (w : Form) → at.0 < length (problem_of s).nodes → w ≡ form_told (form_now s at.0)
-      → ((f : ℕ → Bool) → Keeps t.made k bound → resolved_in left (ground_in s f) (bindings_of A t k) (side_at A p at) ≡ side_at A p at)
-      → SideResolved s A t bound k before (record { images = p; node = at; form = w })
+module _ {s : List ℕ} {A : ℕ} {t : Bindings} {bound k : ℕ} {before : Side} {x : HeldSide} {left : ℕ} (h : Kept s A t bound k before x left) where
+  finish : ((f : ℕ → Bool) → Keeps t.made k bound → resolved_in left (ground_in s f) (bindings_of A t k) (side_held A x) ≡ side_held A x)
+      → SideResolved s A t bound k before x
   unfolding resolved
-  finish w there e h =
+  finish stays =
       record {
-        side = λ f i. rw (length_bindings_of A t k bound i) (sym (kept f i ∙ h f i));
-        form = e;
-        there = there;
+        side = λ f i. rw (length_bindings_of A t k bound i) (sym (h.resolves f i ∙ stays f i));
+        form = h.form;
+        there = h.there;
       }
 
   -- No replacement is left.
-  pub finish_none : (w : Form) → at.0 < length (problem_of s).nodes → w ≡ form_told (form_now s at.0) → left ≡ 0
-      → SideResolved s A t bound k before (record { images = p; node = at; form = w })
-  finish_none w there e z = finish w there e (λ f i. resolved_zero (ground_in s f) (bindings_of A t k) (side_at A p at) left z)
+  pub finish_none : left ≡ 0 → SideResolved s A t bound k before x
+  finish_none z = finish (λ f i. resolved_zero (ground_in s f) (bindings_of A t k) (side_held A x) left z)
 
   -- The side is no suspension of a bound variable.
-  pub finish_free : (w : Form) (r : Found) → A ≤ 32 → at.0 < length (problem_of s).nodes → w ≡ form_told (form_now s at.0)
-      → Valued t bound w r → r.bound ≡ false → SideResolved s A t bound k before (record { images = p; node = at; form = w })
-  finish_free w r h there e v b =
-      finish w there e λ f i.
-      resolved_stop s f (bindings_of A t k) (side_at A p at) left (rw e at (v.value A h k i) ∙ value_in_unbound A r b)
+  pub finish_free : A ≤ 32 → Valued t bound x.form None → SideResolved s A t bound k before x
+  unfolding value_in
+  finish_free few v = finish λ f i. resolved_stop s f (bindings_of A t k) (side_held A x) left (rw h.form at (v.value A few k i))
 
   -- One more replacement.
-  pub kept_more : (w : Form) (r : Found) (outer q : Permutation) → A ≡ (problem_of s).atoms → A ≤ 32 → w ≡ form_told (form_now s at.0)
-      → Valued t bound w r → r.bound ≡ true → left ≢ 0 → length r.value.images.images ≡ 32
-      → table A outer ≡ whole_of s A (table A p) at.0 → q ≡ of_table (after (table A outer) (table A r.value.images))
-      → Kept s A t bound k before (side_at A q r.value.node) (left - 1)
-  unfolding side_of
-  kept_more w r outer q a h e v b n l o c f i =
-      let bs = bindings_of A t k in
-      let W = whole_of s A (table A p) at.0 in
-      let U = table A r.value.images in
-      let u : value_told bs (form_told (form_now s at.0)) ≡ some (side_of A r.value) =
-      rw e at (v.value A h k i) ∙ value_in_bound A r b in
-      let m : table A q ≡ after W U =
-      ap (table A) c ∙ table_after A (table A outer) U (length_table A r.value.images (omega arith)) ∙ ap (λ (T : Table). after T U) o in
-      kept f i ∙ resolved_on s f bs (side_at A p at) left (side_of A r.value) n u ∙ rw (m, ← a) refl
+  pub kept_more : {v : Value} {rest : ℕ} {y : HeldSide} (outer inner : Permutation) → A ≡ (problem_of s).atoms → A ≤ 32 → Valued t bound x.form (Some v)
+      → left ≡ rest + 1 → length v.images.images ≡ 32 → NodesThere (length (problem_of s).nodes) t.made bound
+      → table A outer ≡ whole_of s A (table A x.images) x.node.0 → inner ≡ of_table (after (table A outer) (table A v.images))
+      → y ≡ record { images = inner; node = v.node; form = form_told (form_now s v.node.0) }
+      → Kept s A t bound k before y rest
+  unfolding side_of value_in
+  kept_more {v} {rest} outer inner all few valued one_more long nodes is_outer is_inner is_side =
+      let W = whole_of s A (table A x.images) x.node.0 in
+      let U = table A v.images in
+      let some_left : left ≢ 0 = omega (arith, one_more) in
+      let one_less : left - 1 ≡ rest = omega (arith, one_more) in
+      let images_are : table A inner ≡ after W U =
+      ap (table A) is_inner ∙ table_after A (table A outer) U (length_table A v.images (omega arith)) ∙ ap (λ (T : Table). after T U) is_outer in
+      rw is_side
+      (record {
+        resolves = λ f i.
+            let bs = bindings_of A t k in
+            let value : value_told bs (form_told (form_now s x.node.0)) ≡ some (side_of A v) = rw h.form at (valued.value A few k i) in
+            h.resolves f i ∙ resolved_on s f bs (side_held A x) left (side_of A v) some_left value ∙ rw (one_less, images_are, ← all) refl;
+        form = refl;
+        there = valued.there _ nodes v refl;
+      })
 
 -- ---- a side that is no suspension of a bound variable
 
@@ -183,5 +194,6 @@ pub resolved_itself : (s : List ℕ) (A : ℕ) (t : Bindings) (bound k : ℕ) (p
     → at.0 < length (problem_of s).nodes → w ≡ form_told (form_now s at.0) → is_bound bound w ≡ false
     → SideResolved s A t bound k (side_at A p at) (record { images = p; node = at; form = w })
 resolved_itself s A t bound k p at w there e b =
-    finish s A t bound k (side_at A p at) p at k (λ f i. refl) w there e λ f i.
-    resolved_stop s f (bindings_of A t k) (side_at A p at) k (rw e at (unbound_told A t k bound i w b))
+    let kept : Kept s A t bound k (side_at A p at) (record { images = p; node = at; form = w }) k =
+    record { resolves = λ f i. refl; form = e; there = there } in
+    finish kept λ f i. resolved_stop s f (bindings_of A t k) (side_at A p at) k (rw e at (unbound_told A t k bound i w b))

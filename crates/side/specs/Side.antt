@@ -1,6 +1,6 @@
 -- Sides as the code has them, against the definition's (run, specs/Meaning.antt). Definitions alone; their laws are in proofs/.
-use Rattle.std.specs.Prelude.{ℕ, ◌≤◌, ◌<◌, ◌≡◌, ◌≢◌, Bool, true, false, List, length}
-use Rattle.std.proofs.Math.Option.{Option, none}
+use Rattle.std.specs.Prelude.{ℕ, ◌≤◌, ◌<◌, ◌≡◌, ◌≢◌, Bool, false, List, length, Option, Some}
+use Rattle.std.proofs.Math.Option.{Option as Maybe, none}
 use Rattle.names.specs.declared.NodeId.{NodeId}
 use Rattle.permutation.specs.Table.{Table, after, of_swaps}
 use Rattle.permutation.specs.Store.{table}
@@ -13,7 +13,7 @@ use Rattle.problem.specs.declared.Form.TheVariants.{Unit, Atom, Abstraction, Pai
 use Rattle.run.specs.Meaning.{Side, Binding}
 use Rattle.run.specs.Run.{Ground, value_of, resolved}
 use Rattle.bindings.specs.Bindings.{Bindings, bindings_of, Keeps, value_in, NodesThere}
-use Rattle.bindings.specs.declared.Found.{Found}
+use Rattle.bindings.specs.declared.Value.{Value}
 use Rattle.side.specs.declared.Side.{Side as HeldSide}
 
 -- Where the run of the problem takes place, with some variables protected.
@@ -47,7 +47,7 @@ abbrev pub Compound : Form → Type 0
 Compound w = kind w ≢ 5
 
 -- The value of the variable that a form suspends, if there is one and it is bound.
-abbrev pub value_told : List Binding → Form → Option Side
+abbrev pub value_told : List Binding → Form → Maybe Side
 value_told bs Unit = none
 value_told bs (Atom a) = none
 value_told bs (Abstraction a n) = none
@@ -65,10 +65,10 @@ is_bound bound (Application f n) = false
 is_bound bound (Suspension x) = member bound x.0
 
 -- What is found of a form: the definition's value, with any number of atoms in use.
-pub record Valued (t : Bindings) (bound : ℕ) (form : Form) (r : Found) : Type 0 where
+pub record Valued (t : Bindings) (bound : ℕ) (form : Form) (r : Option Value) : Type 0 where
   pub value : (A : ℕ) → A ≤ 32 → (k : ℕ) → Keeps t.made k bound → value_told (bindings_of A t k) form ≡ value_in A r
-  pub suspends : r.bound ≡ true → Suspends form
-  pub there : (n : ℕ) → NodesThere n t.made bound → r.bound ≡ true → r.value.node.0 < n
+  pub suspends : (v : Value) → r ≡ Some v → Suspends form
+  pub there : (n : ℕ) → NodesThere n t.made bound → (v : Value) → r ≡ Some v → v.node.0 < n
 
 -- What resolving gives: the definition's resolved side, whichever variables are protected, with what stands at its node.
 pub record SideResolved (s : List ℕ) (A : ℕ) (t : Bindings) (bound k : ℕ) (before : Side) (r : HeldSide) : Type 0 where

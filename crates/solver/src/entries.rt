@@ -3,143 +3,117 @@ ghost use Rattle.std.specs.Prelude.{◌≡◌};
 ghost use Rattle.run.specs.Answer as run;
 ghost use Rattle.numbers.specs.Numbers.{result_of, judgement_given};
 
-use crate::tables::{
-    Asked, Assumed, Firsts, Heads, Images, Made, Marks, NodeVariables, Places, Values,
-};
-use numbers::Given;
-use reader::Reading;
+use crate::tables::{self, Bindings, Demands, Stack, Tables, Work};
+use numbers::{Judged, Solved};
+use problem::Input;
 use verdicts::judging::judge_read;
 use verdicts::solving::solve_read;
 
-// The solver, over lent work tables with any content.
-pub fn solve_with(
-    input: &[u8],
-    output: &mut [u8],
-    places: &mut Places,
-    assumed: &mut Assumed,
-    node_variables: &mut NodeVariables,
-    heads: &mut Heads,
-    images: &mut Images,
-    made: &mut Made,
-    values: &mut Values,
-    asked: &mut Asked,
-    firsts: &mut Firsts,
-    marks: &mut Marks,
-) -> Given
+// The solver, over lent work tables with any content. The judge reads alike: a function for that would be lent three tables to save a literal alone.
+pub fn solve_with(input: &[u8], output: &mut [u8], tables: &mut Tables) -> Solved
     ensures { result_of result output.new ≡ run.solve input.now output.old }
 {
-    let reading = reader::read(input, places, assumed, node_variables);
-    match reading {
-        Reading::Refused(g) => g,
-        Reading::Read(c) => solve_read(
-            input,
-            c,
-            output,
-            places,
-            assumed,
-            node_variables,
-            heads,
-            images,
-            made,
-            values,
-            asked,
-            firsts,
-            marks,
-        ),
-    }
+    let c = reader::read(
+        input,
+        &mut *tables.places,
+        &mut *tables.assumed,
+        &mut *tables.node_variables,
+    )?;
+    let input = Input {
+        bytes: input,
+        places: &*tables.places,
+    };
+    solve_read(
+        &input,
+        c,
+        output,
+        &*tables.assumed,
+        &*tables.node_variables,
+        &mut tables.work,
+        &mut *tables.marks,
+    )
 }
 
 // The judge, over lent work tables with any content.
-pub fn judge_with(
-    input: &[u8],
-    places: &mut Places,
-    assumed: &mut Assumed,
-    node_variables: &mut NodeVariables,
-    heads: &mut Heads,
-    images: &mut Images,
-    made: &mut Made,
-    values: &mut Values,
-    asked: &mut Asked,
-    firsts: &mut Firsts,
-    marks: &mut Marks,
-) -> Given
+pub fn judge_with(input: &[u8], tables: &mut Tables) -> Judged
     ensures { judgement_given result ≡ run.judge input.now }
 {
-    let reading = reader::read(input, places, assumed, node_variables);
-    match reading {
-        Reading::Refused(g) => g,
-        Reading::Read(c) => judge_read(
-            input,
-            c,
-            places,
-            assumed,
-            node_variables,
-            heads,
-            images,
-            made,
-            values,
-            asked,
-            firsts,
-            marks,
-        ),
-    }
+    let c = reader::read(
+        input,
+        &mut *tables.places,
+        &mut *tables.assumed,
+        &mut *tables.node_variables,
+    )?;
+    let input = Input {
+        bytes: input,
+        places: &*tables.places,
+    };
+    judge_read(
+        &input,
+        c,
+        &*tables.assumed,
+        &*tables.node_variables,
+        &mut tables.work,
+        &mut *tables.marks,
+    )
 }
 
-// The solver.
-pub fn solve(input: &[u8], output: &mut [u8]) -> Given
+// The solver. The literal of the tables stands here and in `judge`: a struct that owns the ten, to be lent by one function, was tried, and a literal with an
+// array of arrays for a field is not covered by the borrow checker.
+pub fn solve(input: &[u8], output: &mut [u8]) -> Solved
     ensures { result_of result output.new ≡ run.solve input.now output.old }
 {
-    let mut places = crate::tables::EMPTY_PLACES;
-    let mut assumed = crate::tables::EMPTY_ASSUMED;
-    let mut node_variables = crate::tables::EMPTY_NODE_VARIABLES;
-    let mut heads = crate::tables::EMPTY_HEADS;
-    let mut images = crate::tables::EMPTY_IMAGES;
-    let mut made = crate::tables::EMPTY_MADE;
-    let mut values = crate::tables::EMPTY_VALUES;
-    let mut asked = crate::tables::EMPTY_ASKED;
-    let mut firsts = crate::tables::EMPTY_FIRSTS;
-    let mut marks = crate::tables::EMPTY_MARKS;
     solve_with(
         input,
         output,
-        &mut places,
-        &mut assumed,
-        &mut node_variables,
-        &mut heads,
-        &mut images,
-        &mut made,
-        &mut values,
-        &mut asked,
-        &mut firsts,
-        &mut marks,
+        &mut Tables {
+            places: &mut tables::EMPTY_PLACES,
+            assumed: &mut tables::EMPTY_ASSUMED,
+            node_variables: &mut tables::EMPTY_NODE_VARIABLES,
+            work: Work {
+                stack: Stack {
+                    heads: &mut tables::EMPTY_HEADS,
+                    images: &mut tables::EMPTY_IMAGES,
+                },
+                bindings: Bindings {
+                    made: &mut tables::EMPTY_MADE,
+                    values: &mut tables::EMPTY_VALUES,
+                },
+                demands: Demands {
+                    asked: &mut tables::EMPTY_ASKED,
+                    firsts: &mut tables::EMPTY_FIRSTS,
+                },
+            },
+            marks: &mut tables::EMPTY_MARKS,
+        },
     )
 }
 
 // The judge.
-pub fn judge(input: &[u8]) -> Given
+pub fn judge(input: &[u8]) -> Judged
     ensures { judgement_given result ≡ run.judge input.now }
 {
-    let mut places = crate::tables::EMPTY_PLACES;
-    let mut assumed = crate::tables::EMPTY_ASSUMED;
-    let mut node_variables = crate::tables::EMPTY_NODE_VARIABLES;
-    let mut heads = crate::tables::EMPTY_HEADS;
-    let mut images = crate::tables::EMPTY_IMAGES;
-    let mut made = crate::tables::EMPTY_MADE;
-    let mut values = crate::tables::EMPTY_VALUES;
-    let mut asked = crate::tables::EMPTY_ASKED;
-    let mut firsts = crate::tables::EMPTY_FIRSTS;
-    let mut marks = crate::tables::EMPTY_MARKS;
     judge_with(
         input,
-        &mut places,
-        &mut assumed,
-        &mut node_variables,
-        &mut heads,
-        &mut images,
-        &mut made,
-        &mut values,
-        &mut asked,
-        &mut firsts,
-        &mut marks,
+        &mut Tables {
+            places: &mut tables::EMPTY_PLACES,
+            assumed: &mut tables::EMPTY_ASSUMED,
+            node_variables: &mut tables::EMPTY_NODE_VARIABLES,
+            work: Work {
+                stack: Stack {
+                    heads: &mut tables::EMPTY_HEADS,
+                    images: &mut tables::EMPTY_IMAGES,
+                },
+                bindings: Bindings {
+                    made: &mut tables::EMPTY_MADE,
+                    values: &mut tables::EMPTY_VALUES,
+                },
+                demands: Demands {
+                    asked: &mut tables::EMPTY_ASKED,
+                    firsts: &mut tables::EMPTY_FIRSTS,
+                },
+            },
+            marks: &mut tables::EMPTY_MARKS,
+        },
     )
 }

@@ -14,7 +14,7 @@ use Rattle.rows.proofs.Rows.{table_held}
 use Rattle.run.specs.Run.{Equation}
 use Rattle.stack.specs.Stack.{Stack, stack_tables, pending_at, equation_of, stack_of}
 use Rattle.stack.specs.InPlace.{left_at, right_at, nodes_at, equation_at, stack_with, Renewed, Split, RightSwapped}
-use Rattle.stack.proofs.Stack.{same_below}
+use Rattle.stack.proofs.Laws.{same_below}
 
 -- The top is known by the nodes and the images at its place.
 pub top_at : (A : ℕ) (t : Stack) (n : ℕ) → A ≤ 32

@@ -5,6 +5,8 @@ use mathlib.Core.Path.{◌≡◌, refl, ◌∙◌, sym, ap}
 use mathlib.Core.List.{List, [], ◌++◌}
 use lib.ListN.{length, take, length-append}
 use Rattle.outlet.specs.declared.Taken.{Taken}
+use Rattle.outlet.specs.declared.Unwritten.{Unwritten}
+use Rattle.std.specs.Prelude.{Result}
 use Rattle.outlet.specs.Puts.{Puts}
 use Rattle.printer.specs.Lines.{refused_word, cut_words, problems_word, newline, decimal, spaced, refused_line, cut_line}
 use Rattle.printer.specs.Placed.{Placed}
@@ -12,14 +14,14 @@ use Rattle.printer.proofs.Fitting.{refused_length, placed_whole}
 use Rattle.standing.specs.Settled.{Handed}
 
 -- The front of the lent bytes is the text, and it was the front that was handed out.
-pub wrote : {text out : List ℕ} {taken : Taken} (end : ℕ) → take end out ≡ text
+pub wrote : {text out : List ℕ} {taken : Result Taken Unwritten} (end : ℕ) → take end out ≡ text
     → Puts (length (take end out)) taken → end ≡ length (take end out) → Handed text out taken
 wrote {text} {out} {taken} end e p l =
     let n : length text ≡ end = sym (ap length e) ∙ sym l in
     record { stands = rw n e; puts = rw e at p }
 
 -- Nothing was to be written, and nothing was.
-pub quiet : {out : List ℕ} (taken : Taken) → Puts 0 taken → Handed [] out taken
+pub quiet : {out : List ℕ} (taken : Result Taken Unwritten) → Puts 0 taken → Handed [] out taken
 quiet taken p = record { stands = refl; puts = p }
 
 -- A cut's line is short because a refusal's line with the same number in it is.

@@ -1,11 +1,11 @@
 -- What a stream writes in all. Definitions alone.
-use Rattle.std.specs.Prelude.{ℕ, ◌≡◌, ◌<◌, ◌⊎◌, List, [], ◌∷◌, ◌++◌, Option, length, take}
+use Rattle.std.specs.Prelude.{ℕ, ◌≡◌, ◌<◌, ◌⊎◌, List, [], ◌∷◌, ◌++◌, Option, Result, Ok, Err, length, take}
 use Rattle.std.specs.Io.KnownBytes.{Appends}
 use Rattle.block.specs.Block.{block}
-use Rattle.frames.specs.declared.Came.TheVariants as came
+use Rattle.frames.specs.declared.Stop.TheVariants as stop
 use Rattle.standing.specs.Settled.{said_of}
-use Rattle.standing.specs.declared.How.{How}
-use Rattle.standing.specs.declared.How.TheVariants as how
+use Rattle.standing.specs.declared.Ending.{Ending}
+use Rattle.standing.specs.declared.Ending.TheVariants.{Through, Cut, Unreadable, Unwritten}
 
 -- The blocks of problems, one after the other; beside each problem stands what the lent output held before it.
 unfoldable pub blocks : List (List ℕ × List ℕ) → List ℕ
@@ -19,16 +19,17 @@ pub record IsPart (text bytes : List ℕ) : Type 0 where
   pub front : bytes ≡ take count text
 
 -- What comes behind so many blocks: the line of a cut, which has their number; where a write failed, a part of one more block or of that line; else nothing.
-abbrev pub Last : How → ℕ → List ℕ → Type 0
-Last how.Open count bytes = bytes ≡ []
-Last how.Through count bytes = bytes ≡ []
-Last how.Cut count bytes = bytes ≡ said_of count came.Cut
-Last how.Unreadable count bytes = bytes ≡ []
-Last how.Unwritten count bytes = IsPart (said_of count came.Cut) bytes ⊎ ((problem : List ℕ) × ((before : List ℕ) × IsPart (block problem before) bytes))
+abbrev pub Last : Result Unit Ending → ℕ → List ℕ → Type 0
+Last (Ok u) count bytes = bytes ≡ []
+Last (Err (Through filled)) count bytes = bytes ≡ []
+Last (Err (Cut filled taken)) count bytes = bytes ≡ said_of count (Err (stop.Cut filled))
+Last (Err (Unreadable unread)) count bytes = bytes ≡ []
+Last (Err (Unwritten filled unwritten)) count bytes =
+    IsPart (said_of count (Err (stop.Cut filled))) bytes ⊎ ((problem : List ℕ) × ((before : List ℕ) × IsPart (block problem before) bytes))
 
 -- What was added to a writer that knows what it holds: whole blocks, and what comes behind them where the stream ends so.
-pub record Wrote (old new : Option (List ℕ)) (h : How) : Type 0 where
+pub record Wrote (old new : Option (List ℕ)) (r : Result Unit Ending) : Type 0 where
   pub problems : List (List ℕ × List ℕ)
   pub bytes : List ℕ
   pub written : Appends old new (blocks problems ++ bytes)
-  pub last : Last h (length problems) bytes
+  pub last : Last r (length problems) bytes

@@ -5,15 +5,13 @@
 
 ghost use Rattle.std.specs.Prelude.{◌+◌, ◌*◌, ◌≤◌, length, take};
 ghost use Rattle.std.specs.Io.KnownBytes.{Appends};
-ghost use Rattle.standing.specs.Settled.{Ends};
-ghost use Rattle.stream.specs.Turned.{text_of, Turned};
+ghost use Rattle.stream.specs.Turned.{taken_by, text_of, Turned};
 ghost use Rattle.stream.specs.Written.{Wrote};
 
-use frames::Came;
-use solver::tables::{
-    Asked, Assumed, Firsts, Heads, Images, Made, Marks, NodeVariables, Places, Values,
-};
-use standing::{Ending, How, Outcome};
+use frames::Stop;
+use numbers::Given;
+use solver::tables::{self, Bindings, Demands, Stack, Tables, Work};
+use standing::{Ending, Turn};
 use std::io::{Read, Write};
 use std::time::Clock;
 
@@ -31,66 +29,20 @@ fn turn<R: Read, W: Write, C: Clock>(
     input: &mut [u8],
     output: &mut [u8],
     out: &mut [u8],
-    places: &mut Places,
-    assumed: &mut Assumed,
-    node_variables: &mut NodeVariables,
-    heads: &mut Heads,
-    images: &mut Images,
-    made: &mut Made,
-    values: &mut Values,
-    asked: &mut Asked,
-    firsts: &mut Firsts,
-    marks: &mut Marks,
-) -> Outcome
+    tables: &mut Tables,
+) -> Result<Turn, Stop>
     requires in_bounds { 4 ≤ length input.old }
     requires output_in_bounds { 4 * length output.old + 67 ≤ length out.old }
     ensures turned { Turned input.new output.old out.new result }
-    ensures written { Appends (W.contents ports.old.to) (W.contents ports.new.to)
-        (take result.taken.count (text_of input.new output.old result.reading.came)) }
+    ensures written { Appends (W.contents ports.old.to) (W.contents ports.new.to) (take (taken_by result) (text_of input.new output.old result)) }
 {
-    let reading = frames::next(&mut ports.from, &ports.clock, input);
-    let came = reading.came;
-    let Came::Whole(n) = came else {
-        let taken = outlet::nothing();
-        return Outcome {
-            reading: reading,
-            taken: taken,
-        };
-    };
-    let problem = &input[..n];
-    let solved = solver::entries::solve_with(
-        problem,
-        output,
-        places,
-        assumed,
-        node_variables,
-        heads,
-        images,
-        made,
-        values,
-        asked,
-        firsts,
-        marks,
-    );
-    let judged = solver::entries::judge_with(
-        problem,
-        places,
-        assumed,
-        node_variables,
-        heads,
-        images,
-        made,
-        values,
-        asked,
-        firsts,
-        marks,
-    );
+    let frame = frames::next(&mut ports.from, &ports.clock, input)?;
+    let problem = &input[..frame.size];
+    let solved = Given::from(solver::entries::solve_with(problem, output, tables));
+    let judged = Given::from(solver::entries::judge_with(problem, tables));
     let end = block::lines(out, solved, output, judged);
     let taken = outlet::put(&mut ports.to, &ports.clock, &out[..end]);
-    Outcome {
-        reading: reading,
-        taken: taken,
-    }
+    Ok(Turn { frame, taken })
 }
 
 // Every problem of the stream, one after the other, until none comes or its block could not be written whole.
@@ -99,68 +51,28 @@ fn all<R: Read, W: Write, C: Clock>(
     input: &mut [u8],
     output: &mut [u8],
     out: &mut [u8],
-    places: &mut Places,
-    assumed: &mut Assumed,
-    node_variables: &mut NodeVariables,
-    heads: &mut Heads,
-    images: &mut Images,
-    made: &mut Made,
-    values: &mut Values,
-    asked: &mut Asked,
-    firsts: &mut Firsts,
-    marks: &mut Marks,
-) -> Ending
+    tables: &mut Tables,
+) -> Result<(), Ending>
     requires in_bounds { 4 ≤ length input.old }
     requires output_in_bounds { 4 * length output.old + 67 ≤ length out.old }
-    ensures ends { Ends result.how result.taken.whole }
-    ensures wrote { Wrote (W.contents ports.old.to) (W.contents ports.new.to) result.how }
+    ensures { Wrote (W.contents ports.old.to) (W.contents ports.new.to) result }
 {
-    let mut count: usize = 0;
-    let mut ending = Ending {
-        how: How::Open,
-        taken: outlet::nothing(),
-        read: descriptor::none(),
-    };
-    while count < 18446744073709551615 {
-        let turned = turn(
-            ports,
-            input,
-            output,
-            out,
-            places,
-            assumed,
-            node_variables,
-            heads,
-            images,
-            made,
-            values,
-            asked,
-            firsts,
-            marks,
-        );
-        ending = standing::settled(&mut ports.to, &ports.clock, turned, count, out);
-        let how = ending.how;
-        let How::Open = how else {
-            return ending;
-        };
-        count += 1;
+    for count in 0..usize::MAX {
+        let turned = turn(ports, input, output, out, tables);
+        standing::settled(&mut ports.to, &ports.clock, turned, count, out)?;
     }
-    ending
+    Ok(())
 }
 
 // What whoever started the program has to know, since it ends with 0 whatever came. That `main` tells what `all` gives back is tested and not proved.
-fn tell<E: Write, C: Clock>(errors: &mut E, clock: &C, ending: Ending) {
-    match ending.how {
-        How::Open => {}
-        How::Through => {}
-        How::Cut => {
-            notice::cut(errors, clock);
-        }
-        How::Unreadable => {
-            notice::unreadable(errors, clock, ending.read);
-        }
-        How::Unwritten => {
-            notice::unwritable(errors, clock, outlet::last(ending.taken));
+fn tell<E: Write, C: Clock>(errors: &mut E, clock: &C, ended: Result<(), Ending>) {
+    match ended {
+        Ok(()) => {}
+        Err(Ending::Through(_)) => {}
+        Err(Ending::Cut(_, _)) => notice::cut(errors, clock),
+        Err(Ending::Unreadable(unread)) => notice::unreadable(errors, clock, unread.last),
+        Err(Ending::Unwritten(_, unwritten)) => {
+            notice::unwritable(errors, clock, unwritten.last());
         }
     }
 }
@@ -172,34 +84,30 @@ fn main(rt: HostRuntime) {
         clock: rt,
     };
     let mut errors = rt.stderr();
-    let mut places = solver::tables::EMPTY_PLACES;
-    let mut assumed = solver::tables::EMPTY_ASSUMED;
-    let mut node_variables = solver::tables::EMPTY_NODE_VARIABLES;
-    let mut heads = solver::tables::EMPTY_HEADS;
-    let mut images = solver::tables::EMPTY_IMAGES;
-    let mut made = solver::tables::EMPTY_MADE;
-    let mut values = solver::tables::EMPTY_VALUES;
-    let mut asked = solver::tables::EMPTY_ASKED;
-    let mut firsts = solver::tables::EMPTY_FIRSTS;
-    let mut marks = solver::tables::EMPTY_MARKS;
+    // The literal of the tables stands here, too: no function hands out what lies in its frame, and a struct that owns them was tried (solver::entries).
+    let mut tables = Tables {
+        places: &mut tables::EMPTY_PLACES,
+        assumed: &mut tables::EMPTY_ASSUMED,
+        node_variables: &mut tables::EMPTY_NODE_VARIABLES,
+        work: Work {
+            stack: Stack {
+                heads: &mut tables::EMPTY_HEADS,
+                images: &mut tables::EMPTY_IMAGES,
+            },
+            bindings: Bindings {
+                made: &mut tables::EMPTY_MADE,
+                values: &mut tables::EMPTY_VALUES,
+            },
+            demands: Demands {
+                asked: &mut tables::EMPTY_ASKED,
+                firsts: &mut tables::EMPTY_FIRSTS,
+            },
+        },
+        marks: &mut tables::EMPTY_MARKS,
+    };
     let mut input = [0u8; 65536];
     let mut output = [0u8; 16384];
     let mut out = [0u8; 65664];
-    let ending = all(
-        &mut ports,
-        &mut input,
-        &mut output,
-        &mut out,
-        &mut places,
-        &mut assumed,
-        &mut node_variables,
-        &mut heads,
-        &mut images,
-        &mut made,
-        &mut values,
-        &mut asked,
-        &mut firsts,
-        &mut marks,
-    );
-    tell(&mut errors, &rt, ending);
+    let ended = all(&mut ports, &mut input, &mut output, &mut out, &mut tables);
+    tell(&mut errors, &rt, ended);
 }

@@ -5,7 +5,7 @@ ghost use Rattle.std.specs.Prelude.{◌≡◌, ◌<◌, length, set};
 ghost use Rattle.variables.specs.Variables.{set_of};
 
 use names::{MOST_NODES, NodeId};
-use sets::VariableSet;
+use sets::{Set, VariableSet};
 
 pub type NodeVariables = [u64; MOST_NODES];
 
@@ -16,8 +16,8 @@ pub fn of_node(node_variables: &NodeVariables, node: NodeId) -> VariableSet
     requires { node.0 < 512 }
     ensures { result.0 ≡ set_of node_variables.now node.0 }
 {
-    let n = node.0 as usize;
-    VariableSet(node_variables[n])
+    let n = usize::from(node.0);
+    Set(node_variables[n])
 }
 
 // The set is put down for node n. The table comes as a slice: so its length is known.

@@ -18,8 +18,10 @@ use Rattle.run.specs.Answer.{verdict_of, Result, given, judged_run, Judgement, j
 use Rattle.run.proofs.Circleless.{circleless_none}
 use Rattle.run.proofs.States.{State, state_next, AtEnd, run_end, ground_with, start_from}
 use Rattle.bindings.specs.Bindings.{Bindings, bindings_of}
-use Rattle.bindings.proofs.Bindings.{keeps_none}
-use Rattle.numbers.specs.declared.Given.{Given}
+use Rattle.bindings.proofs.Laws.{keeps_none}
+use Rattle.std.specs.Prelude.{Err}
+use Rattle.numbers.specs.declared.Reason.TheVariants.{Limit, Clash, Inside, Protected}
+use Rattle.numbers.specs.declared.Refusal.{Refusal}
 use Rattle.numbers.specs.Numbers.{result_of, judgement_given}
 use Rattle.machine.specs.Run.{Founded, end_given}
 use Rattle.verdicts.specs.Ends.{run_from}
@@ -73,31 +75,33 @@ all_protected p r X h = let l : X < 64 = omega (arith, r.few_variables) in membe
 
 -- ---- what is given back, by the run's end
 
--- The solver: an end that is not finished has its own number and place; a finished one has what comes after it.
-pub solved_refused : (p : Problem) (output : List ℕ) {g : Given} (x : End) → g ≡ end_given x → g.number ≢ 0 → result_of g output ≡ given (verdict_of p x) output
+-- The solver: an end that is not finished is given back as it is; a finished one has what comes after it.
+pub solved_refused : (p : Problem) (output : List ℕ) {f : Refusal} (x : End) → end_given x ≡ Err f → result_of (Err f) output ≡ given (verdict_of p x) output
 unfolding verdict_of given
-solved_refused p output (limit n) e h = ap (λ (g : Given). result_of g output) e
-solved_refused p output (refused why n) e h = ap (λ (g : Given). result_of g output) e
-solved_refused p output (finished k bs ds) e h = absurd (h (ap (λ (g : Given). g.number) e))
+solved_refused p output {f} (limit n) e = let q : f ≡ record { reason = Limit; place = n } = cc in rw q
+solved_refused p output {f} (refused clash n) e = let q : f ≡ record { reason = Clash; place = n } = cc in rw q
+solved_refused p output {f} (refused inside n) e = let q : f ≡ record { reason = Inside; place = n } = cc in rw q
+solved_refused p output {f} (refused protection n) e = let q : f ≡ record { reason = Protected; place = n } = cc in rw q
+solved_refused p output {f} (finished k bs ds) e = absurd (cc)
 
 pub solved_finished : (p : Problem) (output : List ℕ) {x y : End} {g : Result} → x ≡ y → g ≡ given (verdict_of p x) output → g ≡ given (verdict_of p y) output
 solved_finished p output e q = q ∙ ap (λ (x : End). given (verdict_of p x) output) e
 
 -- The judge: "8 stays 8", with its place.
-pub judged_limit : (p : Problem) {g : Given} (x : End) → g ≡ end_given x → g.number ≡ 8 → judgement_given g ≡ judgement_of p x
+pub judged_limit : (p : Problem) {f : Refusal} (x : End) → end_given x ≡ Err f → f.reason ≡ Limit → judgement_given (Err f) ≡ judgement_of p x
 unfolding judgement_of
-judged_limit p (limit n) e h = ap judgement_given e
-judged_limit p (refused clash n) e h = let q = ap (λ (g : Given). g.number) e in absurd (omega arith)
-judged_limit p (refused inside n) e h = let q = ap (λ (g : Given). g.number) e in absurd (omega arith)
-judged_limit p (refused protection n) e h = let q = ap (λ (g : Given). g.number) e in absurd (omega arith)
-judged_limit p (finished k bs ds) e h = let q = ap (λ (g : Given). g.number) e in absurd (omega arith)
+judged_limit p {f} (limit n) e h = let q : f ≡ record { reason = Limit; place = n } = cc in rw q
+judged_limit p {f} (refused clash n) e h = let q : f.reason ≡ Clash = cc in absurd (cc)
+judged_limit p {f} (refused inside n) e h = let q : f.reason ≡ Inside = cc in absurd (cc)
+judged_limit p {f} (refused protection n) e h = let q : f.reason ≡ Protected = cc in absurd (cc)
+judged_limit p {f} (finished k bs ds) e h = absurd (cc)
 
 -- Every other refusal of the run is its one, without a place.
-pub judged_refused : (p : Problem) {g : Given} (x : End) → g ≡ end_given x → g.number ≢ 8 → g.number ≢ 0 → (14, 0) ≡ judgement_of p x
+pub judged_refused : (p : Problem) {f : Refusal} (x : End) → end_given x ≡ Err f → f.reason ≢ Limit → (14, 0) ≡ judgement_of p x
 unfolding judgement_of
-judged_refused p (limit n) e h k = absurd (h (ap (λ (g : Given). g.number) e))
-judged_refused p (refused why n) e h k = refl
-judged_refused p (finished k bs ds) e h l = absurd (l (ap (λ (g : Given). g.number) e))
+judged_refused p {f} (limit n) e h = let q : f.reason ≡ Limit = cc in absurd (h q)
+judged_refused p (refused why n) e h = refl
+judged_refused p (finished k bs ds) e h = absurd (cc)
 
 pub judged_finished : (p : Problem) {x y : End} {g : Judgement} → x ≡ y → g ≡ judgement_of p x → g ≡ judgement_of p y
 judged_finished p e q = q ∙ ap (judgement_of p) e

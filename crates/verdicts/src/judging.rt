@@ -8,57 +8,35 @@ ghost use Rattle.run.specs.Answer as run;
 ghost use Rattle.numbers.specs.Numbers.{judgement_given};
 
 use crate::running::run_read;
-use bindings::{Made, Values};
-use demands::{Asked, Firsts};
 use fresh::Marks;
-use numbers::{ACCEPTED, DOES_NOT_HOLD, Given, LIMIT, give};
-use problem::{Assumed, Counts, Places};
+use numbers::{Judged, Reason, refuse};
+use perform::Work;
+use problem::{Assumed, Counts, Input};
 use sets::VariableSet;
-use stack::{Heads, Images};
 use variables::NodeVariables;
 
-// What the judge gives back for a problem that was read.
+// What the judge gives back for a problem that was read. A run that reached its limit stays that; every other refusal of the run is the judge's one.
 pub fn judge_read(
-    input: &[u8],
+    input: &Input,
     c: Counts,
-    places: &Places,
     assumed: &Assumed,
     node_variables: &NodeVariables,
-    heads: &mut Heads,
-    images: &mut Images,
-    made: &mut Made,
-    values: &mut Values,
-    asked: &mut Asked,
-    firsts: &mut Firsts,
+    work: &mut Work,
     marks: &mut Marks,
-) -> Given
-    requires { ReadInto input.now places.now assumed.now c × VariablesKept (problem_of input.now).nodes node_variables.now }
-    ensures { judgement_given result ≡ run.judgement_of (problem_of input.now) (judged_run (problem_of input.now)) }
+) -> Judged
+    requires { ReadInto input.now.bytes.now input.now.places.now assumed.now c
+        × VariablesKept (problem_of input.now.bytes.now).nodes node_variables.now }
+    ensures { judgement_given result
+        ≡ run.judgement_of (problem_of input.now.bytes.now) (judged_run (problem_of input.now.bytes.now)) }
 {
     let protected = VariableSet::below(64);
-    let ran = run_read(
-        input,
-        c,
-        places,
-        node_variables,
-        heads,
-        images,
-        made,
-        values,
-        asked,
-        firsts,
-        protected,
-        VariableSet::empty(),
-        0,
-    );
-    let at_limit = ran.verdict.number == LIMIT;
-    if at_limit {
-        return ran.verdict;
+    let none = VariableSet::empty();
+    match run_read(input, c, node_variables, work, protected, none, 0) {
+        Ok(ran) => {
+            let asked = &mut *work.demands.asked;
+            ending::judged(input, c, assumed, &work.bindings, asked, marks, ran.bound)
+        }
+        Err(refusal) if refusal.reason == Reason::Limit => Err(refusal),
+        Err(_) => Err(refuse(Reason::DoesNotHold, 0)),
     }
-    if ran.verdict.number != ACCEPTED {
-        return give(DOES_NOT_HOLD, 0);
-    }
-    ending::judged(
-        input, c, places, assumed, made, values, asked, marks, ran.bound,
-    )
 }

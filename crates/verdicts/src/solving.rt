@@ -8,55 +8,41 @@ ghost use Rattle.run.specs.Answer.{verdict_of, given};
 ghost use Rattle.numbers.specs.Numbers.{result_of};
 
 use crate::running::run_read;
-use bindings::{Made, Values};
-use demands::{Asked, Firsts};
 use fresh::Marks;
-use numbers::{ACCEPTED, Given};
-use problem::{Assumed, Counts, Places};
+use numbers::Solved;
+use perform::Work;
+use problem::{Assumed, Counts, Input};
 use sets::VariableSet;
-use stack::{Heads, Images};
 use variables::NodeVariables;
 
 // What the solver gives back for a problem that was read.
 pub fn solve_read(
-    input: &[u8],
+    input: &Input,
     c: Counts,
     output: &mut [u8],
-    places: &Places,
     assumed: &Assumed,
     node_variables: &NodeVariables,
-    heads: &mut Heads,
-    images: &mut Images,
-    made: &mut Made,
-    values: &mut Values,
-    asked: &mut Asked,
-    firsts: &mut Firsts,
+    work: &mut Work,
     marks: &mut Marks,
-) -> Given
-    requires { ReadInto input.now places.now assumed.now c × VariablesKept (problem_of input.now).nodes node_variables.now }
+) -> Solved
+    requires { ReadInto input.now.bytes.now input.now.places.now assumed.now c
+        × VariablesKept (problem_of input.now.bytes.now).nodes node_variables.now }
     ensures { result_of result output.new
-        ≡ given (verdict_of (problem_of input.now) (run_of (problem_of input.now))) output.old }
+        ≡ given (verdict_of (problem_of input.now.bytes.now) (run_of (problem_of input.now.bytes.now))) output.old }
 {
-    let ran = run_read(
+    let none = VariableSet::empty();
+    let ran = run_read(input, c, node_variables, work, c.protected, none, 0)?;
+    let asked = &mut *work.demands.asked;
+    ending::conclude(
         input,
         c,
-        places,
-        node_variables,
-        heads,
-        images,
-        made,
-        values,
+        output,
+        assumed,
+        &work.bindings,
         asked,
-        firsts,
-        c.protected,
-        VariableSet::empty(),
-        0,
-    );
-    if ran.verdict.number != ACCEPTED {
-        return ran.verdict;
-    }
-    ending::conclude(
-        input, c, output, places, assumed, made, values, asked, marks, ran.bound, ran.count,
+        marks,
+        ran.bound,
+        ran.count,
         ran.steps,
     )
 }

@@ -5,6 +5,8 @@ use mathlib.Core.Logic.{◌≢◌, ◌⊎◌, inl, inr, ⊎_elim}
 use mathlib.Core.Bool.{Bool, true, false, not, ◌&&◌, true≢false}
 use mathlib.Core.List.{List, [], ◌∷◌}
 use mathlib.Core.Option.{Option, none}
+use Rattle.std.specs.Prelude as std
+use Rattle.names.specs.declared.Variable.{Variable}
 use lib.ListN.{length, get_or}
 use Rattle.sets.specs.Bits.{member, difference, removed}
 use Rattle.sets.proofs.Bits.{by_member, member_difference, member_removed_same, member_removed_other, subset_member}
@@ -257,18 +259,17 @@ module _ {p : Problem} {atoms n : ℕ} {seen variables : List ℕ} {new : ℕ} {
   visited_late {late} suspended h = visited_by (λ value. grown_none) (late_more late n h suspended) (λ value a k. inr (late_same late n h))
 
   -- "for a suspension if the atom sent to a is fresh for its variable"
-  pub visited_suspension : {bare X : ℕ} {π : Swaps} {variables₁ late late₁ : List ℕ} → form_at p.nodes n ≡ suspension_form π X
+  pub visited_suspension : {bare : std.Option Variable} {X : ℕ} {π : Swaps} {variables₁ late late₁ : List ℕ} → form_at p.nodes n ≡ suspension_form π X
       → bare ≡ bare_of (form_at p.nodes n) → Came bare n X new variables late variables₁ late₁
       → X < p.variables → X < length variables → n / 64 < length late → Done (Marked p seen₁ variables₁) late late₁
-  visited_suspension {bare} {X} {π} {variables₁} {late} {late₁} e is_bare c few_variables in_variables in_late =
-      by_eq bare 255
-      (λ q. rw ((c.waits q).0, (c.waits q).1) (visited_late (record { few = t.few; swaps = π; variable = X; form = e }) in_late))
-      (λ d. rw (c.asked d).1 (visited_bare (without_swaps π e d) (c.asked d).0 few_variables in_variables))
+  visited_suspension {bare} {X} {π} {variables₁} {late} {late₁} e is_bare c few_variables in_variables in_late = go π e (is_bare ∙ ap bare_of e)
     where
       -- Where the table has a variable for it, there are no swaps.
-      without_swaps : (ρ : Swaps) → form_at p.nodes n ≡ suspension_form ρ X → bare ≢ 255 → form_at p.nodes n ≡ suspension_form [] X
-      without_swaps [] q d = q
-      without_swaps (s ∷ ρ) q d = absurd (d (is_bare ∙ ap bare_of q))
+      go : (ρ : Swaps) → form_at p.nodes n ≡ suspension_form ρ X → bare ≡ bare_of (suspension_form ρ X) → Done (Marked p seen₁ variables₁) late late₁
+      go [] q b =
+          let come = c.asked (λ none. cc) in rw come.1 (visited_bare q come.0 few_variables in_variables)
+      go (s ∷ ρ) q b =
+          let come = c.waits b in rw (come.0, come.1) (visited_late (record { few = t.few; swaps = s ∷ ρ; variable = X; form = q }) in_late)
 
 -- ---- asking what waits
 

@@ -3,3 +3,4 @@ pub mod Rows
 pub mod Waiting
 pub mod Asking
 pub mod Growth
+pub mod Told

@@ -1,13 +1,11 @@
 -- The laws of the sets that code moves through swaps.
-use Prim.Native.Nat.{ℕ, suc, ◌+◌, ◌^◌, ◌≤◌, ◌<◌}
+use Prim.Native.Nat.{ℕ, ◌^◌, ◌≤◌, ◌<◌}
 use native.Mathlib.Omega.{arith}
-use native.Mathlib.Numerals.{add-one}
-use mathlib.Core.Path.{◌≡◌, refl, sym, ◌∙◌, ap}
+use mathlib.Core.Path.{◌≡◌, refl, sym, ◌∙◌, ap, subst}
 use mathlib.Core.Logic.{◌≢◌}
 use mathlib.Core.Bool.{Bool, true, false, true≢false}
-use mathlib.Core.List.{List, [], ◌∷◌}
-use lib.ListN.{length, get_or, drop}
-use lib.Seq.{drop-cons}
+use mathlib.Core.List.{List, [], ◌∷◌, ◌++◌}
+use lib.ListN.{length, get_or}
 use Rattle.sets.specs.Bits.{member, inserted, removed}
 use Rattle.sets.proofs.Bits.{member_within, set_of_lt, member_set_of, set_of_unique}
 use Rattle.sets.proofs.Bits.{inserted_lt, member_inserted_same, member_inserted_other, removed_le, member_removed_same, member_removed_other}
@@ -81,52 +79,43 @@ module _ (w a b : ℕ) (h : w < 2 ^ 32) (lb : b < 32) (ea : member w a ≡ true)
 
 -- ---- a list of swaps, from left to right
 
--- After i bytes: what is left to do is the rest of the list.
-pub record Passing (s : List ℕ) (w i r : ℕ) : Type 0 where
+-- Some bytes are left to read: what is left to do are the swaps in them.
+pub record Passing (s : List ℕ) (w : ℕ) (left : List ℕ) (r : ℕ) : Type 0 where
   pub small : r < 2 ^ 32
-  pub names : Within 32 (swaps_in (drop i s))
-  pub left : (x : ℕ) → x < 32 → member w (act (swaps_in s) x) ≡ member r (act (swaps_in (drop i s)) x)
+  pub names : Within 32 (swaps_in left)
+  pub same : (x : ℕ) → x < 32 → member w (act (swaps_in s) x) ≡ member r (act (swaps_in left) x)
 
-pub passing_none : (s : List ℕ) (w : ℕ) → w < 2 ^ 32 → Within 32 (swaps_in s) → Passing s w 0 w
-passing_none s w h k = record { small = h; names = k; left = λ x l. refl }
+-- At the beginning all bytes are left.
+pub passing_none : {s : List ℕ} {w : ℕ} → w < 2 ^ 32 → Within 32 (swaps_in s) → Passing s w s w
+passing_none h k = record { small = h; names = k; same = λ x l. refl }
 
-module _ {s : List ℕ} {w i r : ℕ} (p : Passing s w i r) (h : i + 1 < length s) where
-  -- The two atoms of the next swap.
-  abbrev a : ℕ
-  a = get_or s i 0
+two_of : (x : List ℕ) → length x ≡ 2 → x ≡ get_or x 0 0 ∷ get_or x 1 0 ∷ []
+two_of [] h = absurd (omega arith)
+two_of (a ∷ []) h = absurd (omega arith)
+two_of (a ∷ b ∷ []) h = refl
+two_of (a ∷ b ∷ c ∷ x) h = absurd (omega arith)
 
-  abbrev b : ℕ
-  b = get_or s (i + 1) 0
+-- The next two bytes are read.
+pub passing_next : {s : List ℕ} {w r : ℕ} {left : List ℕ} (x more : List ℕ) → Passing s w left r → left ≡ x ++ more → length x ≡ 2
+    → Passing s w (get_or x 0 0 ∷ get_or x 1 0 ∷ more) r
+passing_next {s} {w} {r} x more p e h = subst (λ (l : List ℕ). Passing s w l r) (e ∙ ap (λ (l : List ℕ). l ++ more) (two_of x h)) p
 
-  -- The swaps after it.
-  abbrev rest : Swaps
-  rest = swaps_in (drop (i + 2) s)
-
-  two : swaps_in (drop i s) ≡ (a, b) ∷ rest
-  two =
-      let n : suc (i + 1) ≡ i + 2 = omega arith in
-      let second : drop (suc i) s ≡ b ∷ drop (i + 2) s =
-      ap (λ (j : ℕ). drop j s) (sym (add-one i)) ∙ drop-cons s (i + 1) 0 (omega arith) ∙ ap (λ (j : ℕ). b ∷ drop j s) n in
-      ap swaps_in (drop-cons s i 0 (omega arith) ∙ ap (λ (l : List ℕ). a ∷ l) second)
-
+module _ {s : List ℕ} {w a b : ℕ} {more : List ℕ} {r : ℕ} (p : Passing s w (a ∷ b ∷ more) r) where
   pub passing_names : (a < 32) × (b < 32)
-  passing_names = let k = rw two at p.names in k.0
+  passing_names = p.names.0
 
-  pub passing_more : Passing s w (i + 2) (sent_into 32 (swapped a b) r)
-  passing_more =
-      let k : Within 32 rest = (rw two at p.names).1 in
-      record {
-        small = sent_lt 32 (swapped a b) r;
-        names = k;
-        left = λ x l.
-            p.left x l ∙ ap (λ (π : Swaps). member r (act π x)) two ∙ sym (member_sent 32 (swapped a b) r (act rest x) (within 32 rest x k l));
-      }
+  pub passing_more : Passing s w more (sent_into 32 (swapped a b) r)
+  passing_more = record {
+    small = sent_lt 32 (swapped a b) r;
+    names = p.names.1;
+    same = λ x l. p.same x l ∙ sym (member_sent 32 (swapped a b) r (act (swaps_in more) x) (within 32 (swaps_in more) x p.names.1 l));
+  }
 
 none_left : (l : List ℕ) → length l ≤ 1 → swaps_in l ≡ []
 none_left [] h = refl
 none_left (a ∷ []) h = refl
 none_left (a ∷ b ∷ l) h = absurd (omega arith)
 
-pub passing_all : {s : List ℕ} {w i r : ℕ} → Passing s w i r → length (drop i s) ≤ 1 → r ≡ sent_into 32 (act (swaps_in s)) w
-passing_all {s} {w} {i} {r} p h =
-    sent_unique 32 (act (swaps_in s)) w r p.small (λ x l. sym (p.left x l ∙ ap (λ (π : Swaps). member r (act π x)) (none_left (drop i s) h)))
+pub passing_all : {s : List ℕ} {w : ℕ} {left : List ℕ} {r : ℕ} → Passing s w left r → length left ≤ 1 → r ≡ sent_into 32 (act (swaps_in s)) w
+passing_all {s} {w} {left} {r} p h =
+    sent_unique 32 (act (swaps_in s)) w r p.small (λ x l. sym (p.same x l ∙ ap (λ (π : Swaps). member r (act π x)) (none_left left h)))

@@ -1,7 +1,9 @@
 -- Going through a node's parts by the table alone. A suspension's swaps stand in the input: one that has some waits, and is asked in the end. What is kept
 -- until then, and what is told in between. Definitions alone.
 use Rattle.std.specs.Prelude.{ℕ, ◌/◌, ◌%◌, ◌<◌, ◌≡◌, ◌≢◌, ◌⊎◌, true, List, [], length, get_or, set}
+use Rattle.std.specs.Prelude as std
 use Rattle.std.proofs.Math.Option.{Option}
+use Rattle.names.specs.declared.Variable.{Variable}
 use Rattle.sets.specs.Bits.{member, inserted}
 use Rattle.permutation.specs.Swaps.{Swaps, act, inverse}
 use Rattle.field.specs.Field.{Bytes}
@@ -30,9 +32,9 @@ pub record SuspendedAt (nodes : List Node) (n : ℕ) : Type 0 where
   pub form : form_at nodes n ≡ suspension_form swaps variable
 
 -- Atoms came to suspension n of variable X, of which the table says whether it has swaps: without any the atoms are asked of X as they are, else n waits.
-pub record Came (bare n X atoms : ℕ) (variables late variables₁ late₁ : List ℕ) : Type 0 where
-  pub asked : bare ≢ 255 → (variables₁ ≡ added variables X atoms) × (late₁ ≡ late)
-  pub waits : bare ≡ 255 → (variables₁ ≡ variables) × (late₁ ≡ with_late late n)
+pub record Came (bare : std.Option Variable) (n X atoms : ℕ) (variables late variables₁ late₁ : List ℕ) : Type 0 where
+  pub asked : bare ≢ std.None → (variables₁ ≡ added variables X atoms) × (late₁ ≡ late)
+  pub waits : bare ≡ std.None → (variables₁ ≡ variables) × (late₁ ≡ with_late late n)
 
 -- A pair with a node is looked through, or the node waits; one with a variable may wait.
 abbrev pub LookedOrLate : List Node → (ℕ → Option Side) → List ℕ → (Pair → Type 0) → Pair → Type 0

@@ -11,10 +11,11 @@ ghost use Rattle.visit.specs.Parts.{InWord, Late, with_late, SuspendedAt, Came, 
 
 use demands::Sets;
 use names::{Atom, MOST_NODES, NodeId, Variable};
-use problem::{Form, Places, look};
-use sets::AtomSet;
+use problem::{Form, Input, Places, look};
+use sets::{AtomSet, Set};
 
 // Nodes as bits, 64 to a word: the suspensions with swaps that atoms came to. They wait until all parts are visited, since their swaps stand in the input.
+// A bit is a node's number, and that is the format's.
 const WORDS: usize = MOST_NODES / 64;
 
 type LateNodes = [u64; WORDS];
@@ -24,15 +25,16 @@ pub fn atoms_at(rows: &[u32], i: usize) -> AtomSet
     requires { i < length rows.now }
     ensures { result.0 ≡ get_or rows.now i 0 }
 {
-    AtomSet(rows[i])
+    Set(rows[i])
 }
 
 // More atoms in row i.
+#[tactic(auto, unfolding(crate::specs::Visited::added))]
 pub fn add_atoms(rows: &mut [u32], i: usize, more: AtomSet)
     requires { i < length rows.old }
     ensures { rows.new ≡ added rows.old i more.0 }
 {
-    let r = AtomSet(rows[i]).union(more);
+    let r = Set(rows[i]).union(more);
     rows[i] = r.0;
 }
 
@@ -59,74 +61,64 @@ fn through_swaps(swaps: &[u8], atoms: AtomSet) -> AtomSet
     ensures { result.0 ≡ sent_into 32 (act (swaps_in swaps.now)) atoms.0 }
 {
     let mut r = atoms;
-    let mut i: usize = 0;
-    while i + 1 < swaps.len() {
-        r = exchange(r, Atom(swaps[i]), Atom(swaps[i + 1]));
-        i += 2;
+    for pair in swaps.chunks_exact(2) {
+        r = exchange(r, Atom(pair[0]), Atom(pair[1]));
     }
     r
 }
 
 // The atoms are asked of a suspension's variable: each as the atom that the suspension's own swaps send to it.
-fn ask(
-    s: &[u8],
-    places: &Places,
-    node: NodeId,
-    x: Variable,
-    atoms: AtomSet,
-    on_variables: &mut [u32],
-)
-    requires { NodeStands s.now places.now node.0 × Suspended (form_now s.now node.0)
-        × Within 32 (own_swaps (form_now s.now node.0)) × (x.0 < length on_variables.old) }
+fn ask(input: &Input, node: NodeId, x: Variable, atoms: AtomSet, on_variables: &mut [u32])
+    requires { NodeStands input.now.bytes.now input.now.places.now node.0 × Suspended (form_now input.now.bytes.now node.0)
+        × Within 32 (own_swaps (form_now input.now.bytes.now node.0)) × (x.0 < length on_variables.old) }
     ensures { on_variables.new
-        ≡ added on_variables.old x.0 (sent_into 32 (act (own_swaps (form_now s.now node.0))) atoms.0) }
+        ≡ added on_variables.old x.0 (sent_into 32 (act (own_swaps (form_now input.now.bytes.now node.0))) atoms.0) }
 {
-    let swaps = look::swaps_of(s, places, node);
+    let swaps = input.swaps_of(node);
     let sent = through_swaps(swaps, atoms);
-    add_atoms(on_variables, x.0 as usize, sent);
+    add_atoms(on_variables, usize::from(x.0), sent);
 }
 
 // The atoms that were seen at a suspension are asked of its variable.
-fn ask_at(s: &[u8], places: &Places, node: NodeId, seen: &[u32], on_variables: &mut [u32])
-    requires there { Standing s.now places.now × SuspendedAt (problem_of s.now).nodes node.0 }
+fn ask_at(input: &Input, node: NodeId, seen: &[u32], on_variables: &mut [u32])
+    requires there { Standing input.now.bytes.now input.now.places.now × SuspendedAt (problem_of input.now.bytes.now).nodes node.0 }
     requires long { (512 ≤ length seen.now) × (64 ≤ length on_variables.old) }
-    ensures { SwapsAsked (problem_of s.now) seen.now (λ n. n ≡ node.0)
+    ensures { SwapsAsked (problem_of input.now.bytes.now) seen.now (λ n. n ≡ node.0)
         on_variables.old on_variables.new }
 {
-    let form = look::form_of(s, places, node);
+    let form = input.form_of(node);
     let Form::Suspension(x) = form else {
         return;
     };
-    let atoms = atoms_at(seen, node.0 as usize);
-    ask(s, places, node, x, atoms, on_variables);
+    let atoms = atoms_at(seen, usize::from(node.0));
+    ask(input, node, x, atoms, on_variables);
 }
 
-// The same for each node of a word, of nodes from 64 * i on.
-fn ask_word(s: &[u8], places: &Places, i: usize, word: u64, seen: &[u32], on_variables: &mut [u32])
-    requires there { Standing s.now places.now × ((n : ℕ) → InWord i word n → SuspendedAt (problem_of s.now).nodes n) }
+// The same for each node of a word, of nodes from 64 * i on. Bits of nodes and no Set: the names in a Set are atoms or variables.
+// The casts: no From makes a usize of a u32, and n is below 512, so that a try_from would bring a branch that is never taken.
+fn ask_word(input: &Input, i: usize, word: u64, seen: &[u32], on_variables: &mut [u32])
+    requires there { Standing input.now.bytes.now input.now.places.now × ((n : ℕ) → InWord i word n → SuspendedAt (problem_of input.now.bytes.now).nodes n) }
     requires long { (512 ≤ length seen.now) × (64 ≤ length on_variables.old) }
-    ensures { SwapsAsked (problem_of s.now) seen.now (InWord i word)
+    ensures { SwapsAsked (problem_of input.now.bytes.now) seen.now (InWord i word)
         on_variables.old on_variables.new }
 {
     let mut rest = word;
     while rest != 0 {
         let n = i * 64 + u64::trailing_zeros(rest) as usize;
-        ask_at(s, places, NodeId(n as u16), seen, on_variables);
-        rest = rest & (rest - 1);
+        ask_at(input, NodeId(n as u16), seen, on_variables);
+        rest &= rest - 1;
     }
 }
 
 // The same for each node of some words.
-fn ask_words(s: &[u8], places: &Places, late: &[u64], seen: &[u32], on_variables: &mut [u32])
-    requires there { Standing s.now places.now × ((n : ℕ) → Late late.now n → SuspendedAt (problem_of s.now).nodes n) }
+fn ask_words(input: &Input, late: &[u64], seen: &[u32], on_variables: &mut [u32])
+    requires there { Standing input.now.bytes.now input.now.places.now × ((n : ℕ) → Late late.now n → SuspendedAt (problem_of input.now.bytes.now).nodes n) }
     requires long { (512 ≤ length seen.now) × (64 ≤ length on_variables.old) }
-    ensures { SwapsAsked (problem_of s.now) seen.now (Late late.now)
+    ensures { SwapsAsked (problem_of input.now.bytes.now) seen.now (Late late.now)
         on_variables.old on_variables.new }
 {
-    let mut i: usize = 0;
-    while i < late.len() {
-        ask_word(s, places, i, late[i], seen, on_variables);
-        i += 1;
+    for (i, word) in late.iter().enumerate() {
+        ask_word(input, i, *word, seen, on_variables);
     }
 }
 
@@ -135,25 +127,23 @@ fn none_waits(late: &[u64]) -> bool
     ensures { result ≡ true → (n : ℕ) → Late late.now n → ⊥ }
 {
     let mut all: u64 = 0;
-    let mut i: usize = 0;
-    while i < late.len() {
-        all = all | late[i];
-        i += 1;
+    for word in late {
+        all |= *word;
     }
     all == 0
 }
 
 // The same for all nodes that wait. The words come as an array: so nobody who calls has to show how many there are.
-fn ask_late(s: &[u8], places: &Places, late: &LateNodes, seen: &[u32], on_variables: &mut [u32])
-    requires there { Standing s.now places.now × ((n : ℕ) → Late late.now n → SuspendedAt (problem_of s.now).nodes n) }
+fn ask_late(input: &Input, late: &LateNodes, seen: &[u32], on_variables: &mut [u32])
+    requires there { Standing input.now.bytes.now input.now.places.now × ((n : ℕ) → Late late.now n → SuspendedAt (problem_of input.now.bytes.now).nodes n) }
     requires long { (512 ≤ length seen.now) × (64 ≤ length on_variables.old) }
-    ensures { SwapsAsked (problem_of s.now) seen.now (Late late.now)
+    ensures { SwapsAsked (problem_of input.now.bytes.now) seen.now (Late late.now)
         on_variables.old on_variables.new }
 {
     if none_waits(late) {
         return;
     }
-    ask_words(s, places, late, seen, on_variables);
+    ask_words(input, late, seen, on_variables);
 }
 
 // One node more waits.
@@ -161,8 +151,7 @@ fn wait(late: &mut [u64], node: u16)
     requires { node / 64 < length late.old }
     ensures { late.new ≡ with_late late.old node }
 {
-    let i = (node / 64) as usize;
-    late[i] = late[i] | (1u64 << (node % 64));
+    late[usize::from(node / 64)] |= 1u64 << (node % 64);
 }
 
 // Atoms come to a suspension. Without swaps they are asked of its variable as they are; else the node waits.
@@ -178,11 +167,10 @@ fn come(
     ensures { Came (bare_in (node_word places.now node)) node x.0 atoms.0
         on_variables.old late.old on_variables.new late.new }
 {
-    if look::bare_at(places, NodeId(node)).0 == 255 {
-        wait(late, node);
-        return;
+    match look::bare_at(places, NodeId(node)) {
+        Some(_) => add_atoms(on_variables, usize::from(x.0), atoms),
+        None => wait(late, node),
     }
-    add_atoms(on_variables, x.0 as usize, atoms);
 }
 
 // "Freshness is judged part by part, a compound term by its parts": marks the atoms at the node and what 003's rules lead to within its parts, whose numbers
@@ -202,8 +190,8 @@ fn parts(
         (Marked (problem_of t.input) seen.old on_variables.old)
         (Marked (problem_of t.input) seen.new on_variables.new) late.old late.new }
 {
-    let n = node as usize;
-    let new = AtomSet(atoms).minus(atoms_at(seen, n));
+    let n = usize::from(node);
+    let new = Set(atoms).minus(atoms_at(seen, n));
     if new.is_empty() {
         return;
     }
@@ -218,11 +206,11 @@ fn parts(
             return;
         }
         Form::Pair(l, r) => {
-            if l.0 == r.0 {
+            if l == r {
                 parts(places, new.0, r.0, seen, on_variables, late);
                 return;
             }
-            if l.0 < r.0 {
+            if l < r {
                 parts(places, new.0, l.0, seen, on_variables, late);
                 parts(places, new.0, r.0, seen, on_variables, late);
                 return;
@@ -244,21 +232,14 @@ fn parts(
 
 // Visits the atoms at the node: its parts, and then the suspensions with swaps that they came to. Of these all atoms seen there are asked: those that were
 // seen before were asked before.
-pub fn visit(
-    s: &[u8],
-    places: &Places,
-    atoms: AtomSet,
-    node: NodeId,
-    seen: &mut Sets,
-    on_variables: &mut Sets,
-)
-    requires there { Standing s.now places.now × (node.0 < length (problem_of s.now).nodes) }
-    requires settled { Settled (problem_of s.now).nodes (Marked (problem_of s.now) seen.old on_variables.old) }
-    ensures { Visited (problem_of s.now).nodes atoms.0 node.0
-        (Marked (problem_of s.now) seen.old on_variables.old)
-        (Marked (problem_of s.now) seen.new on_variables.new) }
+pub fn visit(input: &Input, atoms: AtomSet, node: NodeId, seen: &mut Sets, on_variables: &mut Sets)
+    requires there { Standing input.now.bytes.now input.now.places.now × (node.0 < length (problem_of input.now.bytes.now).nodes) }
+    requires settled { Settled (problem_of input.now.bytes.now).nodes (Marked (problem_of input.now.bytes.now) seen.old on_variables.old) }
+    ensures { Visited (problem_of input.now.bytes.now).nodes atoms.0 node.0
+        (Marked (problem_of input.now.bytes.now) seen.old on_variables.old)
+        (Marked (problem_of input.now.bytes.now) seen.new on_variables.new) }
 {
     let mut late: LateNodes = [0; WORDS];
-    parts(places, atoms.0, node.0, seen, on_variables, &mut late);
-    ask_late(s, places, &late, seen, on_variables);
+    parts(input.places, atoms.0, node.0, seen, on_variables, &mut late);
+    ask_late(input, &late, seen, on_variables);
 }

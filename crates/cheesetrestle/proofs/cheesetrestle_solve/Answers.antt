@@ -4,5 +4,4 @@ use Rattle.cheesetrestle.proofs.cheesetrestle_solve.Goals as goal
 
 pub joined-requires : goal.joined-requires
 joined-requires c =
-    let solved = c.solve-given in
-    solved_fits c.args.input.now c.args.output.now solved.new.output solved.result solved.ensures (λ i. (c.type_inv.input i).fits)
+    solved_fits c.args.input.now c.args.output.now _ c.solve.result c.from.result c.solve.ensures c.from.ensures (λ i. (c.type_inv.input i).fits)

@@ -1,10 +1,11 @@
--- `descriptor::write` ends, since it counts the turns; so far every write failed, and a write that fails leaves nothing behind.
-use Rattle.std.proofs.Common.{◌-◌}
-use Rattle.std.specs.Io.KnownBytes.{Keeps}
+-- `descriptor::write`: what the last call answered is true of all calls so far, since those before it failed, and a write that fails leaves nothing behind.
+use Rattle.std.proofs.Common.{length, take}
+use Rattle.std.specs.Io.KnownBytes.{Appends}
+use Rattle.descriptor.specs.Answers.{Moved, moved_of}
 use Rattle.descriptor.proofs.write.Given as goal
 
-abbrev pub invariant-loop-turns : goal.invariant-loop-turns
-invariant-loop-turns g l = Keeps (g.W.Write.contents l.initial.writer) (g.W.Write.contents l.writer)
-
-abbrev pub decreases-loop-turns : goal.decreases-loop-turns
-decreases-loop-turns g l = 18446744073709551615 - l.turns
+abbrev pub invariant-loop : goal.invariant-loop
+invariant-loop g l = record {
+  moved : Moved (length l.buf) l.got;
+  bytes : Appends (g.W.Write.contents l.fn.writer) (g.W.Write.contents l.writer) (take (moved_of l.got) l.buf);
+}

@@ -18,27 +18,27 @@ front-put_mid a k n xs ys within fits =
     ∙ ap (λ l. take a xs ++ take n l) (drop_at (take a xs) (ys ++ after) a (length-take-le a xs within))
     ∙ ap (λ l. take a xs ++ l) (take-append-le n ys after fits))
 
-pub loop-done-preserved : goal.loop-done-preserved
-loop-done-preserved g c =
-    let done = c.loop-done.done in
-    let buf = c.loop-done.buf in
+pub loop-count-preserved : goal.loop-count-preserved
+loop-count-preserved g c =
+    let done = c.loop-count.count in
+    let buf = c.loop-count.buf in
     let part = c.read-last.new.buf in
-    let more = c.moved-more.result in
+    let more = c.moved-count.result in
     let k = length buf - done in
     let same : length part ≡ length (mid_of done k buf) = search rules in
     let kept = same_len_mid done k buf part same in
     let long = mid_len done (length buf) buf (le_refl (length buf)) in
     let most : moved_of c.read-last.result.got ≤ length part = no_more (length part) c.read-last.result.got c.read-last.ensures.moved in
-    let fits : more ≤ length part = omega (arith, c.moved-more.ensures) in
+    let fits : more ≤ length part = omega (arith, c.moved-count.ensures) in
     let asked = c.read-last.ensures.asked_value in
     let (within, reached) =
     goes_on (length (put_mid done k buf part)) done more c.read-last.result (omega arith) (omega arith) (omega (arith, asked))
-    c.moved-more.ensures in
-    let front = front-put_mid done k more buf part c.loop-done.invariant.within fits in
+    c.moved-count.ensures in
+    let front = front-put_mid done k more buf part c.loop-count.invariant.within fits in
     record {
-      same_length = kept ∙ c.loop-done.invariant.same_length;
+      same_length = kept ∙ c.loop-count.invariant.same_length;
       within = within;
       reached = reached;
-      bytes = subst (Consumes _ _) (ap (λ n. take done buf ++ take n part) (sym c.moved-more.ensures) ∙ front)
-          (Consumes-trans _ _ _ _ _ c.loop-done.invariant.bytes c.read-last.ensures.bytes);
+      bytes = subst (Consumes _ _) (ap (λ n. take done buf ++ take n part) (sym c.moved-count.ensures) ∙ front)
+          (Consumes-trans _ _ _ _ _ c.loop-count.invariant.bytes c.read-last.ensures.bytes);
     }

@@ -3,5 +3,5 @@ use Rattle.std.proofs.Common.{sym}
 use Rattle.field.proofs.Told.{at_whole}
 use Rattle.opening.proofs.opened.Goals as goal
 
-pub body-b-requires : goal.body-b-requires
-body-b-requires c = (at_whole c.args.s.now c.in-Whole.tag c.in-Whole.n (sym c.in-Whole.ensures)).1
+pub body-requires : goal.body-requires
+body-requires c = (at_whole c.args.s.now c.in-Whole.tag c.in-Whole.n (sym c.in-Whole.ensures)).1

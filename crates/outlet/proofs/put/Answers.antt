@@ -11,21 +11,21 @@ use Rattle.outlet.proofs.put.Goals as goal
 front-mid : (a k n : ℕ) (xs : List ℕ) → n ≤ k → take a xs ++ take n (mid_of a k xs) ≡ take (a + n) xs
 front-mid a k n xs fits = ap (λ l. take a xs ++ l) (take-take n k (drop a xs) fits) ∙ sym (take-add a n xs)
 
-pub loop-done-preserved : goal.loop-done-preserved
-loop-done-preserved g c =
-    let done = c.loop-done.done in
+pub loop-count-preserved : goal.loop-count-preserved
+loop-count-preserved g c =
+    let done = c.loop-count.count in
     let buf = c.args.buf.now in
-    let more = c.moved-more.result in
+    let more = c.moved-count.result in
     let k = length buf - done in
     let long = mid_len done (length buf) buf (le_refl (length buf)) in
     let most : moved_of c.write-last.result.got ≤ length (mid_of done k buf) = no_more _ c.write-last.result.got c.write-last.ensures.moved in
-    let fits : more ≤ k = omega (arith, c.moved-more.ensures) in
+    let fits : more ≤ k = omega (arith, c.moved-count.ensures) in
     let asked = c.write-last.ensures.asked_value in
     let (within, reached) =
-    goes_on (length buf) done more c.write-last.result (omega arith) (omega (arith, asked)) (omega (arith, asked)) c.moved-more.ensures in
+    goes_on (length buf) done more c.write-last.result (omega arith) (omega (arith, asked)) (omega (arith, asked)) c.moved-count.ensures in
     record {
       within = within;
       reached = reached;
-      bytes = subst (Appends _ _) (ap (λ n. take done buf ++ take n (mid_of done k buf)) (sym c.moved-more.ensures) ∙ front-mid done k more buf fits)
-          (Appends-trans _ _ _ _ _ c.loop-done.invariant.bytes c.write-last.ensures.bytes);
+      bytes = subst (Appends _ _) (ap (λ n. take done buf ++ take n (mid_of done k buf)) (sym c.moved-count.ensures) ∙ front-mid done k more buf fits)
+          (Appends-trans _ _ _ _ _ c.loop-count.invariant.bytes c.write-last.ensures.bytes);
     }

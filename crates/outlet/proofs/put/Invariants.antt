@@ -4,12 +4,12 @@ use Rattle.std.specs.Io.KnownBytes.{Appends}
 use Rattle.descriptor.proofs.Turns.{Reached}
 use Rattle.outlet.proofs.put.Given as goal
 
-abbrev pub invariant-loop-done : goal.invariant-loop-done
-invariant-loop-done g l = record {
-  within : l.done ≤ length l.buf;
-  reached : Reached (length l.buf) l.done l.last;
-  bytes : Appends (g.W.Write.contents l.initial.writer) (g.W.Write.contents l.writer) (take l.done l.buf);
+abbrev pub invariant-loop-count : goal.invariant-loop-count
+invariant-loop-count g l = record {
+  within : l.count ≤ length l.buf;
+  reached : Reached (length l.buf) l.count l.last;
+  bytes : Appends (g.W.Write.contents l.initial.writer) (g.W.Write.contents l.writer) (take l.count l.buf);
 }
 
-abbrev pub decreases-loop-done : goal.decreases-loop-done
-decreases-loop-done g l = length l.buf - l.done
+abbrev pub decreases-loop-count : goal.decreases-loop-count
+decreases-loop-count g l = length l.buf - l.count

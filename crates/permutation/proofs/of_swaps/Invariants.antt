@@ -1,10 +1,11 @@
--- After i bytes the store holds the table of the swaps passed (`Passed`).
-use Rattle.std.proofs.Common.{length, ◌-◌, ◌≤◌}
+-- The store holds the table of the swaps passed (`Passed`).
+use Rattle.std.proofs.Common.{◌≡◌}
 use Rattle.permutation.proofs.Store.{Passed}
 use Rattle.permutation.proofs.of_swaps.Given as goal
 
-abbrev pub invariant-loop-i : goal.invariant-loop-i
-invariant-loop-i l = (l.i ≤ length l.s) × Passed l.n l.s l.i l.r.images
-
-abbrev pub decreases-loop-i : goal.decreases-loop-i
-decreases-loop-i l = length l.s - l.i
+abbrev pub invariant-loop-pair : goal.invariant-loop-pair
+invariant-loop-pair l =
+    (goal.iterator-loop-pair).can_next l.pair-iterator
+    × (goal.iterator-loop-pair).is_finite l.pair-iterator
+    × (l.pair-iterator.size ≡ 2)
+    × Passed l.n l.s l.pair-iterator.rest.now l.r.images

@@ -1,7 +1,9 @@
 -- `down` meets its contract: each turn's step is the definition's, and what it leaves is on its way.
 use native.Mathlib.Omega.{arith}
+use borrow.Author.Rules.{rules}
 use mathlib.Core.Path.{refl}
-use Rattle.quick.proofs.Descending.{some_few, down_start, down_facing, down_waits, down_led, down_done, down_part, down_room, down_parts}
+use Rattle.quick.proofs.Descending.{some_few, down_start, down_facing, down_waits, down_all, down_led, down_done, down_part, down_room, down_parts}
+use Rattle.quick.proofs.down.Goals.{in-Part, in-Parts}
 use Rattle.quick.proofs.down.Goals as goal
 
 -- ---- the top
@@ -10,53 +12,71 @@ pub nodes_at-top-requires : goal.nodes_at-top-requires
 nodes_at-top-requires c = omega (arith, c.requires.standing.2, some_few c.requires.standing.0 c.requires.some_going)
 
 pub loop-steps-init : goal.loop-steps-init
-loop-steps-init c = down_start c.requires.standing c.requires.some_going c.nodes_at-top.ensures
+loop-steps-init c = (down_start c.requires.standing c.requires.some_going c.nodes_at-top.ensures, search rules, search rules)
 
 -- ---- a turn of the loop
 
 pub through-i-requires : goal.through-i-requires
-through-i-requires c = (c.loop-steps.invariant.standing, (down_facing c.loop-steps.invariant).left.there)
+through-i-requires c = (c.loop-steps.invariant.0.standing, (down_facing c.loop-steps.invariant.0).left.there)
 
 pub through-j-requires : goal.through-j-requires
-through-j-requires c = (c.loop-steps.invariant.standing, (down_facing c.loop-steps.invariant).right.there)
+through-j-requires c = (c.loop-steps.invariant.0.standing, (down_facing c.loop-steps.invariant.0).right.there)
 
-pub meet-meeting-requires : goal.meet-meeting-requires
-meet-meeting-requires c = down_led c.loop-steps.invariant c.through-i.ensures c.through-j.ensures
+pub meet-requires : goal.meet-requires
+meet-requires c = down_led c.loop-steps.invariant.0 c.through-i.ensures c.through-j.ensures
 
 -- ---- the equation is left, or no step more may be taken
 
 pub wait-requires : goal.wait-requires
-wait-requires c = (down_facing c.loop-steps.invariant).placed
+wait-requires c = (down_facing c.loop-steps.invariant.0).placed
 
 pub wait-requires-2 : goal.wait-requires-2
-wait-requires-2 c = (down_facing c.loop-steps.invariant).placed
+wait-requires-2 c = (down_facing c.loop-steps.invariant.0).placed
 
-pub returns-in-Leave : goal.returns-in-Leave
-returns-in-Leave c = down_waits c.loop-steps.invariant c.in-Leave.ensures c.wait.ensures
+pub returns-in-Leave-clause-carried : goal.returns-in-Leave-clause-carried
+returns-in-Leave-clause-carried c =
+    let others = c.in-Leave.ensures.others in
+    rw (c.wait.ensures.images, others.made, others.values)
+    (down_waits c.loop-steps.invariant.0 c.in-Leave.ensures.meets (rw others.heads at c.wait.ensures.waits))
 
-pub returns : goal.returns
-returns c = down_waits c.loop-steps.invariant refl c.wait-2.ensures
+pub returns-clause-carried : goal.returns-clause-carried
+returns-clause-carried c =
+    let waits = rw (← (down_all c.loop-steps.invariant.0 c.loop-steps-test.false)) at c.wait-2.ensures.waits in
+    rw c.wait-2.ensures.images (down_waits c.loop-steps.invariant.0 refl waits)
 
 -- ---- it is done
 
-pub returns-in-Done : goal.returns-in-Done
-returns-in-Done c = down_done c.loop-steps.invariant c.through-i.ensures c.through-j.ensures c.loop-steps-test.true c.in-Done.ensures
+pub returns-in-Done-clause-carried : goal.returns-in-Done-clause-carried
+returns-in-Done-clause-carried c =
+    let others = c.in-Done.ensures.others in
+    rw (others.heads, others.made, others.values)
+    (down_done c.loop-steps.invariant.0 c.through-i.ensures c.through-j.ensures c.loop-steps-test.true c.in-Done.ensures.meets)
 
--- ---- it goes on with one part
-
-pub loop-steps-preserved-in-Part : goal.loop-steps-preserved-in-Part
-loop-steps-preserved-in-Part c =
-    down_part c.loop-steps.invariant c.through-i.ensures c.through-j.ensures c.loop-steps-test.true c.in-Part.ensures
-
--- ---- with two
+-- ---- it goes on with one part, or with two
 
 pub split-requires : goal.split-requires
-split-requires c = down_room c.loop-steps.invariant c.through-i.ensures c.through-j.ensures c.loop-steps-test.true c.in-Parts.ensures
+split-requires c = down_room c.loop-steps.invariant.0 c.through-i.ensures c.through-j.ensures c.loop-steps-test.true c.in-Parts.ensures.meets
 
 pub overflow_add-n : goal.overflow_add-n
 overflow_add-n c =
-    omega (arith, down_room c.loop-steps.invariant c.through-i.ensures c.through-j.ensures c.loop-steps-test.true c.in-Parts.ensures)
+    omega (arith, down_room c.loop-steps.invariant.0 c.through-i.ensures c.through-j.ensures c.loop-steps-test.true c.in-Parts.ensures.meets)
 
 pub loop-steps-preserved : goal.loop-steps-preserved
 loop-steps-preserved c =
-    down_parts c.loop-steps.invariant c.through-i.ensures c.through-j.ensures c.loop-steps-test.true c.in-Parts.ensures c.split.ensures
+    elim c.match-meet.branch [
+      | in-Part w ↦
+          let others = w.in-Part.ensures.others in (
+            rw (w.work-is, w.n-is, w.l-is, w.r-is, others.heads, others.made, others.values)
+                (down_part c.loop-steps.invariant.0 c.through-i.ensures c.through-j.ensures c.loop-steps-test.true w.in-Part.ensures.meets),
+            search rules,
+            search rules,
+          )
+      | in-Parts w ↦
+          let others = w.in-Parts.ensures.others in (
+            rw (w.work-is, w.n-is, w.l-is, w.r-is, others.made, others.values)
+                (down_parts c.loop-steps.invariant.0 c.through-i.ensures c.through-j.ensures c.loop-steps-test.true w.in-Parts.ensures.meets
+                (rw others.heads at w.split.ensures.split)),
+            search rules,
+            search rules,
+          )
+    ]

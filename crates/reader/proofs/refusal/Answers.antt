@@ -1,37 +1,43 @@
 -- The bytes end there, or the field is cut, or its fault is told.
-use Rattle.std.proofs.Common.{◌≡◌, take, drop, sym, ap, ◌∙◌}
+use Rattle.std.proofs.Common.{◌≡◌, ◌⊎◌, ⊎_elim, ℕ, List, take, drop, sym, ap, ◌∙◌}
+use Rattle.std.proofs.Common as std
 use Rattle.field.specs.Field.{front}
 use Rattle.field.specs.Front.{front_of}
-use Rattle.field.proofs.Standing.{tail_part}
+use Rattle.field.specs.declared.AtFront.TheVariants.{Whole, Cut, End}
 use Rattle.field.proofs.Told.{at_end, at_cut, at_whole}
-use Rattle.says.specs.Told.{fault_by}
+use Rattle.numbers.specs.declared.Reason.{Reason}
+use Rattle.problem.specs.Reader.{Sizes}
+use Rattle.says.specs.Told.{said_of, fault_by}
+use Rattle.says.specs.declared.Said.{Said}
 use Rattle.says.proofs.Saying.{fault_said}
-use Rattle.reader.specs.Found.{sized_by, refusal_at}
+use Rattle.reader.specs.Found.{refusal_at}
 use Rattle.reader.proofs.refusal.Goals as goal
 
-pub body-b-requires : goal.body-b-requires
-body-b-requires c = (at_whole _ c.in-Whole.tag c.in-Whole.n (sym c.in-Whole.ensures)).1
+module _ (z : Sizes) (at : ℕ) (s : List ℕ) where
+  is_cut : (front_of s ≡ End) ⊎ (front_of s ≡ Cut) → record { number = 3; place = at } ≡ refusal_at z at s
+  unfolding refusal_at front
+  is_cut = ⊎_elim (λ e. rw (at_end s e)) (λ e. rw (at_cut s e).the_front)
+
+  -- What the field says, said with its fault's number.
+  is_whole : (tag n : ℕ) (said : std.Result Said Reason) → front_of s ≡ Whole tag n → said ≡ said_of z tag (take n (drop 3 s))
+      → record { number = fault_by said; place = at } ≡ refusal_at z at s
+  unfolding refusal_at
+  is_whole tag n said e h =
+      rw ((at_whole s tag n e).0.the_front, ap fault_by h ∙ fault_said z tag (take n (drop 3 s)))
+
+pub body-requires : goal.body-requires
+body-requires c = (at_whole _ c.in-Whole.tag c.in-Whole.n (sym c.in-Whole.ensures)).1
 
 pub returns-in-End : goal.returns-in-End
-unfolding refusal_at front
-returns-in-End c =
-    let e = at_end (drop c.args.at c.args.s.now) (ap front_of (sym (tail_part c.args.s.now c.args.at)) ∙ sym c.in-End.ensures) in
-    c.give.ensures ∙ rw e
+returns-in-End c = rw c.refuse.ensures (is_cut _ _ _ (rw c.front.ensures at c.in-End.is))
 
-pub returns-in-Cut : goal.returns-in-Cut
-unfolding refusal_at
-returns-in-Cut c =
-    let e = (at_cut (drop c.args.at c.args.s.now) (ap front_of (sym (tail_part c.args.s.now c.args.at)) ∙ sym c.in-Cut.ensures)).the_front in
-    c.give-in-Cut.ensures ∙ rw e
+pub returns-in-Ok : goal.returns-in-Ok
+returns-in-Ok c =
+    ap (λ k. record { number = fault_by k; place = c.args.rest.now.place }) (sym c.in-Ok.is)
+    ∙ is_whole _ _ _ c.in-Whole.tag c.in-Whole.n _ (sym c.in-Whole.ensures) (rw c.body.ensures at c.field_says.ensures)
 
-pub returns-in-Whole : goal.returns-in-Whole
-unfolding refusal_at
-returns-in-Whole c =
-    let left = drop c.args.at c.args.s.now in
-    let tag = c.in-Whole.tag in
-    let n = c.in-Whole.n in
-    let part = tail_part c.args.s.now c.args.at in
-    let e = (at_whole left tag n (ap front_of (sym part) ∙ sym c.in-Whole.ensures)).0.the_front in
-    let body : c.body-b.result.now ≡ take n (drop 3 left) = c.body-b.ensures ∙ ap (λ l. take n (drop 3 l)) part in
-    let told = c.fault_of.ensures ∙ (ap fault_by c.field_says-said.ensures ∙ fault_said (sized_by c.args.c) tag _) in
-    c.give-in-Whole.ensures ∙ rw (told, body, e)
+pub returns-in-Err : goal.returns-in-Err
+returns-in-Err c =
+    rw c.refuse-in-Err.ensures
+    (ap (λ k. record { number = fault_by k; place = c.args.rest.now.place }) (sym c.in-Err.is)
+    ∙ is_whole _ _ _ c.in-Whole.tag c.in-Whole.n _ (sym c.in-Whole.ensures) (rw c.body.ensures at c.field_says.ensures))

@@ -1,5 +1,6 @@
 -- `whole` meets its contract: a suspension without swaps is under the images alone; of another's swaps the permutation is made, and the images come after it.
 use Prim.Native.Nat.{◌≤◌}
+use native.Mathlib.Omega.{arith}
 use borrow.Author.Rules.{rules}
 use mathlib.Core.Path.{◌≡◌}
 use lib.ListN.{length}
@@ -10,11 +11,11 @@ use Rattle.side.proofs.whole.Goals as goal
 pub swaps_of-swaps-requires : goal.swaps_of-swaps-requires
 swaps_of-swaps-requires c = (c.requires.0.nodes _ c.requires.2, c.requires.3)
 
-pub returns-then-swaps-eq0 : goal.returns-then-swaps-eq0
-returns-then-swaps-eq0 c =
+pub returns-then-is_empty : goal.returns-then-is_empty
+returns-then-is_empty c =
     let few : c.args.atoms ≤ 32 = rw c.requires.1 c.requires.0.readable.few_atoms in
     let long : length c.args.images.images ≡ 32 = search rules in
-    whole_bare _ _ _ _ c.swaps_of-swaps.result.now few long c.swaps_of-swaps.ensures c.if-swaps-eq0.true
+    whole_bare _ _ _ _ c.swaps_of-swaps.result.now few long c.swaps_of-swaps.ensures (grind arith)
 
 pub of_swaps-own-requires : goal.of_swaps-own-requires
 of_swaps-own-requires c =

@@ -1,6 +1,7 @@
 -- The line of a cut, whole: it was the front of the lent bytes that was handed out.
 use Rattle.std.proofs.Common.{take, arith, subst}
 use Rattle.std.specs.Io.KnownBytes.{Appends}
+use Rattle.outlet.specs.Puts.{taken_of}
 use Rattle.standing.proofs.Writing.{wrote, cut_whole}
 use Rattle.standing.proofs.cut.Goals as goal
 
@@ -11,6 +12,6 @@ returns g c =
     record {
       handed = wrote line.result whole c.put.ensures.puts line.ensures.counts;
       bytes =
-          subst (λ t. Appends (g.W.Write.contents c.args.output.now) (g.W.Write.contents c.put.new.writer) (take c.put.result.count t)) whole
+          subst (λ t. Appends (g.W.Write.contents c.args.output.now) (g.W.Write.contents c.put.new.writer) (take (taken_of c.put.result) t)) whole
           c.put.ensures.bytes;
     }

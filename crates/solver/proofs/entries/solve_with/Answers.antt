@@ -1,15 +1,18 @@
--- `solve_with` meets its contract: the reader's refusals are given back, and a problem is solved.
+-- The reader's refusals are given back, and a problem is solved.
+use Rattle.std.proofs.lemmas.Result.{err_from_is_err_and}
 use Rattle.reader.proofs.Given.{read_into, sets_kept}
 use Rattle.solver.proofs.Reading.{solve_refused, solve_read}
 use Rattle.solver.proofs.entries.solve_with.Goals as goal
 
+pub returns-in_err-c : goal.returns-in_err-c
+returns-in_err-c c =
+    let gives = err_from_is_err_and c.from_residual.result c.from_residual.ensures.1 in
+    rw (gives.1, gives.2) (solve_refused c.read.ensures _ c.in_err-c.was)
+
 pub solve_read-requires : goal.solve_read-requires
 solve_read-requires c =
-    let read = c.read-reading.ensures in
-    (read_into _ _ _ read c.in-Read.is, sets_kept _ _ _ read c.in-Read.is)
+    let read = c.read.ensures in
+    (read_into _ _ _ read c.in_ok-c.was, sets_kept _ _ _ read c.in_ok-c.was)
 
-pub returns-in-Refused : goal.returns-in-Refused
-returns-in-Refused c = solve_refused c.read-reading.ensures _ c.in-Refused.is
-
-pub returns-in-Read : goal.returns-in-Read
-returns-in-Read c = solve_read c.read-reading.ensures _ c.in-Read.is c.solve_read.ensures
+pub returns : goal.returns
+returns c = solve_read c.read.ensures _ c.in_ok-c.was c.solve_read.ensures

@@ -1,13 +1,13 @@
--- `judge_read` meets its contract: a run that reached its limit stays that, every other refusal of the run is the judge's one, and what comes after its end
--- decides.
+-- A run that reached its limit stays that, every other refusal of the run is the judge's one, and what comes after its end decides.
 use Prim.Native.Nat.{ℕ}
-use mathlib.Core.Path.{◌≡◌, sym, ◌∙◌, ap}
+use mathlib.Core.Path.{◌≡◌, refl, sym, ◌∙◌, ap}
+use denote.Enum.Bare.{same_true, same_false}
 use Rattle.sets.specs.Bits.{member, all_below}
 use Rattle.problem.specs.Problem.{Problem}
 use Rattle.problem.specs.Readable.{Readable}
 use Rattle.problem.specs.Held.{problem_of}
 use Rattle.run.specs.Answer.{judged_run}
-use Rattle.numbers.specs.Numbers.{judgement_given}
+use Rattle.numbers.specs.contracts.Reason.{the_type}
 use Rattle.bindings.specs.Bindings.{Bindings, bindings_of}
 use Rattle.machine.specs.Run.{end_given}
 use Rattle.verdicts.specs.Ends.{run_from}
@@ -20,25 +20,26 @@ judges : (p : Problem) → Readable p → (protected : ℕ) → protected ≡ al
 judges p readable protected e t =
     judge_run p readable (member protected) t (λ X l. ap (λ (w : ℕ). member w X) e ∙ all_protected p readable X l)
 
-pub run_read-ran-requires-clause-founded : goal.run_read-ran-requires-clause-founded
-run_read-ran-requires-clause-founded c = founded_none _ _ c.empty.ensures
+pub run_read-requires-clause-founded : goal.run_read-requires-clause-founded
+run_read-requires-clause-founded c = founded_none _ _ c.empty-none.ensures
 
-pub returns-then-at_limit : goal.returns-then-at_limit
-returns-then-at_limit c =
-    let p : Problem = problem_of c.args.input.now in
+pub returns-in-Ok : goal.returns-in-Ok
+returns-in-Ok c =
+    let p : Problem = problem_of c.args.input.now.bytes.now in
     let run = judges p c.requires.0.standing.readable _ c.below-protected.ensures _ in
-    judged_limit _ (judged_run p) (c.run_read-ran.ensures.verdict ∙ ap end_given run) c.if-at_limit.true
-
-pub returns-then-ran-ne-ACCEPTED : goal.returns-then-ran-ne-ACCEPTED
-returns-then-ran-ne-ACCEPTED c =
-    let p : Problem = problem_of c.args.input.now in
-    let run = judges p c.requires.0.standing.readable _ c.below-protected.ensures _ in
-    ap judgement_given c.give.ensures
-    ∙ judged_refused _ (judged_run p) (c.run_read-ran.ensures.verdict ∙ ap end_given run) c.if-at_limit.false c.if-ran-ne-ACCEPTED.true
-
-pub returns : goal.returns
-returns c =
-    let p : Problem = problem_of c.args.input.now in
-    let run = judges p c.requires.0.standing.readable _ c.below-protected.ensures _ in
-    let (ended, ends) = c.run_read-ran.ensures.accepted c.if-ran-ne-ACCEPTED.false in
+    let (ended, ends) = c.in-Ok.ensures.ended.accepted _ refl in
     judged_finished p (sym ends ∙ run) (c.judged.ensures _ _ ended)
+
+pub returns-in-Err : goal.returns-in-Err
+returns-in-Err c =
+    let p : Problem = problem_of c.args.input.now.bytes.now in
+    let run = judges p c.requires.0.standing.readable _ c.below-protected.ensures _ in
+    let is_limit = same_true the_type (record {}) _ _ (sym c.eq.ensures ∙ c.if-eq.true) in
+    judged_limit p (judged_run p) (ap end_given (sym run) ∙ c.in-Err.ensures.ended.refused _ refl) is_limit
+
+pub returns-in-Err-2 : goal.returns-in-Err-2
+returns-in-Err-2 c =
+    let p : Problem = problem_of c.args.input.now.bytes.now in
+    let run = judges p c.requires.0.standing.readable _ c.below-protected.ensures _ in
+    let not_limit = same_false the_type _ _ (sym c.eq.ensures ∙ c.if-eq.false) in
+    rw c.refuse.ensures (judged_refused p (judged_run p) (ap end_given (sym run) ∙ c.in-Err.ensures.ended.refused _ refl) not_limit)

@@ -8,7 +8,7 @@ run-ran-requires-clause-ready c =
     let (standing, counts, kept) = c.requires.standing in
     record { standing = standing; counts = counts; filled = kept_filled standing.readable _ kept }
 
-pub returns : goal.returns
-returns c =
+pub returns-clause-ended : goal.returns-clause-ended
+returns-clause-ended c =
     let (standing, counts, kept) = c.requires.standing in
-    ends _ standing.readable _ c.requires.founded _ _ c.words.ensures counts c.run-ran.ensures
+    ends _ standing.readable _ c.requires.founded _ _ c.words.ensures counts c.run-ran.ensures.ended

@@ -1,0 +1,6 @@
+use Rattle.stack.specs.InPlace.{left_at}
+use Rattle.stack.proofs.Stack.left_image.Goals as goal
+
+pub returns : goal.returns
+unfolding left_at
+returns c = c.image.ensures

@@ -1,0 +1,6 @@
+use Rattle.stack.specs.InPlace.{right_at}
+use Rattle.stack.proofs.Stack.right_image.Goals as goal
+
+pub returns : goal.returns
+unfolding right_at
+returns c = c.image.ensures
