@@ -22,7 +22,7 @@ TOP = os.path.dirname(os.path.dirname(os.path.abspath(__file__)))
 LOG = os.path.join(TOP, "target", "rt-ci.log")
 # There are at least so many edits.
 LEAST = 154
-FUNCTION = re.compile(r'( *)(?:pub(?:\(\w+\))? )?(?:const )?(?:unsafe )?(?:extern "C" )?fn (\w+)')
+FUNCTION = re.compile(r'( *)(?:pub(?:\(\w+\))? )?(?:(?:const )?(?:unsafe )?(?:extern "C" )?fn|const) (\w+)')
 BLOCK = re.compile(r"impl(?:<[^{]*?>)? (?:(\w+)[^{]* for )?(\w+)")
 
 
@@ -43,7 +43,7 @@ def read_crates():
 
 
 def functions(text):
-    """The functions that stand in a file of the crate's layout: where each begins and ends, and its names, which have an impl's type in front, or type and trait."""
+    """The functions and constants that stand in a file of the crate's layout: where each begins and ends, and its names, which have an impl's type in front, or type and trait."""
     lines = text.splitlines()
     fronts = [""]
     for number, line in enumerate(lines, 1):
@@ -57,7 +57,7 @@ def functions(text):
             begin = end = number
             while begin > 1 and lines[begin - 2].lstrip().startswith("#["):
                 begin -= 1
-            while end < len(lines) and lines[end - 1] != found[1] + "}" and not (end == number and line.endswith("}")):
+            while end < len(lines) and lines[end - 1] != found[1] + "}" and not (end == number and line.endswith(("}", ";"))):
                 end += 1
             yield begin, end, [front + found[2] for front in fronts]
 
