@@ -151,8 +151,8 @@ impl<'a> Writer<'a> {
     }
 }
 
-// The atoms that are facts of the variable x. Here and below asked, bound, atoms and variables go beside each other: write gets them so, and a struct of
-// them would be made there for two calls.
+// The atoms that are facts of the variable x. Here, at facts and below asked, bound, atoms and variables go beside each other: write gets them so, and
+// a struct of them would be made there for two calls.
 fn fact_set(asked: &Asked, bound: VariableSet, x: Variable, atoms: usize) -> AtomSet
     requires { atoms ≤ 32 }
     ensures { result.0 ≡ fact_set atoms bound.0 (asked_of_variables asked.now) x.0 }

@@ -1,6 +1,6 @@
 // Permutations of up to 32 atoms, by value. Each contract equates the result with a definition of specs/Table.antt, for every content of the
 // arrays, so a caller knows a permutation by its operations and never by its store. The number of atoms in use, n, is a parameter: the cost of
-// an operation follows n and not 32. That n is at most 32 each asks for itself: a type for n would be taken apart in each, to compare and to count.
+// an operation follows n and not 32. That n is at most 32 each that needs it asks: a type for n would be taken apart to compare and to count.
 // Where a number is cast to a smaller type it is less than that type holds: try_from would bring a branch that is never taken.
 #![tactic(auto)]
 

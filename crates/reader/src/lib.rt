@@ -166,7 +166,8 @@ fn refusal(rest: &Rest, c: Counts) -> Option<Refusal>
     }
 }
 
-// The fields after the head, in an input that is not too long. The tables stay beside the bytes, as at read. It moves on by what nodes and other took.
+// The fields after the head, in an input that is not too long. It moves on by what nodes and other took. The tables stay apart, as
+// at read, and beside the bytes: an Input lends places to be read, and here they are written.
 fn fields(
     s: &[u8],
     head: Counts,

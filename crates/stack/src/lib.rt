@@ -19,7 +19,7 @@ use problem::Input;
 use rows::Row;
 use sets::AtomSet;
 
-// So many equations can wait. That a place is below it each method asks for itself: a type of places would be taken apart to index.
+// So many equations can wait. That a place is below it each method that is given one asks: a type of places would be taken apart to index.
 pub const ROOM: usize = 576;
 
 // Of each equation its number and the nodes of its two sides, and the images of the two sides.
