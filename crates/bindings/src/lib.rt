@@ -39,7 +39,63 @@ pub struct Value {
     pub node: NodeId,
 }
 
-// The two tables, lent together.
+// The variable that was bound after i others. Its number is less than a byte holds: try_from would bring a branch that is never taken.
+pub fn variable_at(made: &Made, i: usize) -> Variable
+    requires { (i < 64) × (variable_at made.now i < 64) }
+    ensures { result.0 ≡ variable_at made.now i }
+{
+    Variable(made[ORDER][i] as u8)
+}
+
+// The node of a variable's value.
+pub fn node_of(made: &Made, x: Variable) -> NodeId
+    requires { x.0 < 64 }
+    ensures { result.0 ≡ node_of made.now x.0 }
+{
+    NodeId(made[NODES][usize::from(x.0)])
+}
+
+// Where a variable's value sends an atom from outside: to itself, if it is none of the n in use. The row is read where it lies.
+pub fn image_of(values: &Values, n: usize, x: Variable, a: Atom) -> Atom
+    requires { (n ≤ 32) × (x.0 < 64) }
+    ensures { result.0 ≡ image (images_of n values.now x.0) a.0 }
+{
+    rows::image(&values[usize::from(x.0)], n, a)
+}
+
+// Whether a variable's value is its node as it is: its images send every atom to itself.
+pub fn is_plain(values: &Values, x: Variable) -> bool
+    requires { x.0 < 64 }
+    ensures { result ≡ true → (n : ℕ) → n ≤ 32 → images_of n values.now x.0 ≡ identity n }
+{
+    rows::is_identity(&values[usize::from(x.0)])
+}
+
+// The two tables, lent together to who only reads: so others may read beside him.
+// Not compared: two would be the same where what they are lent is.
+#[derive(Clone, Copy)]
+pub struct Shown<'a> {
+    pub made: &'a Made,
+    pub values: &'a Values,
+}
+
+// What asks one table alone is a function of that table above: who holds no more can ask it.
+impl<'a> Shown<'a> {
+    // The value of a variable, if it is bound.
+    pub fn look_up(&self, bound: VariableSet, x: Variable) -> Option<Value>
+        ensures { LookedUp (binding_tables self.now.made.now self.now.values.now) bound.0 x.0 result }
+    {
+        if !bound.has(x) {
+            return None;
+        }
+        let values = self.values;
+        let images = rows::load(values[usize::from(x.0)]);
+        let node = node_of(self.made, x);
+        Some(Value { images, node })
+    }
+}
+
+// The two tables, lent together to who adds to them.
 #[derive(Drop)]
 pub struct Bindings<'a> {
     pub made: &'a mut Made,
@@ -76,52 +132,13 @@ impl<'a> Bindings<'a> {
         bound.with(x)
     }
 
-    // The variable that was bound after i others. Its number is less than a byte holds: try_from would bring a branch that is never taken.
-    pub fn variable_at(&self, i: usize) -> Variable
-        requires { (i < 64) × (variable_at self.now.made.now i < 64) }
-        ensures { result.0 ≡ variable_at self.now.made.now i }
+    // What they hold, for who only reads.
+    pub fn shown(&self) -> Shown<'_>
+        ensures { (result.made.now ≡ self.now.made.now) × (result.values.now ≡ self.now.values.now) }
     {
-        let made = &*self.made;
-        Variable(made[ORDER][i] as u8)
-    }
-
-    // The node of a variable's value.
-    pub fn node_of(&self, x: Variable) -> NodeId
-        requires { x.0 < 64 }
-        ensures { result.0 ≡ node_of self.now.made.now x.0 }
-    {
-        let made = &*self.made;
-        NodeId(made[NODES][usize::from(x.0)])
-    }
-
-    // Where a variable's value sends an atom from outside: to itself, if it is none of the n in use. The row is read where it lies.
-    pub fn image_of(&self, n: usize, x: Variable, a: Atom) -> Atom
-        requires { (n ≤ 32) × (x.0 < 64) }
-        ensures { result.0 ≡ image (images_of n self.now.values.now x.0) a.0 }
-    {
-        let values = &*self.values;
-        rows::image(&values[usize::from(x.0)], n, a)
-    }
-
-    // Whether a variable's value is its node as it is: its images send every atom to itself.
-    pub fn is_plain(&self, x: Variable) -> bool
-        requires { x.0 < 64 }
-        ensures { result ≡ true → (n : ℕ) → n ≤ 32 → images_of n self.now.values.now x.0 ≡ identity n }
-    {
-        let values = &*self.values;
-        rows::is_identity(&values[usize::from(x.0)])
-    }
-
-    // The value of a variable, if it is bound.
-    pub fn look_up(&self, bound: VariableSet, x: Variable) -> Option<Value>
-        ensures { LookedUp (binding_tables self.now.made.now self.now.values.now) bound.0 x.0 result }
-    {
-        if !bound.has(x) {
-            return None;
+        Shown {
+            made: &*self.made,
+            values: &*self.values,
         }
-        let values = &*self.values;
-        let images = rows::load(values[usize::from(x.0)]);
-        let node = self.node_of(x);
-        Some(Value { images, node })
     }
 }

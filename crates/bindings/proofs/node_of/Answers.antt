@@ -1,6 +1,6 @@
 use Rattle.std.proofs.Common.{rules}
 use Rattle.bindings.specs.Bindings.{node_of}
-use Rattle.bindings.proofs.Bindings.node_of.Goals as goal
+use Rattle.bindings.proofs.node_of.Goals as goal
 
 pub returns : goal.returns
 unfolding node_of

@@ -2,7 +2,7 @@ use Rattle.std.proofs.Common.{◌≡◌, ◌<◌, ◌^◌, sym, ◌∙◌, rules
 use Rattle.sets.proofs.Bits.{member_within}
 use Rattle.bindings.specs.Bindings.{binding_tables}
 use Rattle.bindings.proofs.Laws.{looked_up_bound, looked_up_unbound}
-use Rattle.bindings.proofs.Bindings.look_up.Goals as goal
+use Rattle.bindings.proofs.Shown.look_up.Goals as goal
 
 pub returns-then-not-has : goal.returns-then-not-has
 returns-then-not-has c =

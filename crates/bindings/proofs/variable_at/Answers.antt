@@ -1,6 +1,6 @@
 use Rattle.std.proofs.Common.{rules}
 use Rattle.bindings.specs.Bindings.{order_in}
-use Rattle.bindings.proofs.Bindings.variable_at.Goals as goal
+use Rattle.bindings.proofs.variable_at.Goals as goal
 
 -- A variable of the order is one of the 64, so that no number is cut off.
 pub overflow_cast-result : goal.overflow_cast-result
