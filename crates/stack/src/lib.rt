@@ -50,6 +50,87 @@ pub struct Nodes {
     pub right: NodeId,
 }
 
+// What asks or changes one table alone, or only reads, is a function of the tables that it needs: who holds no more can call it.
+// The equation above n others. Its number is a byte, kept where there is room for two.
+pub fn top(heads: &Heads, images: &Images, n: usize) -> Pending
+    requires { n < most_waiting }
+    ensures { Topped (stack_tables heads.now images.now) n result }
+{
+    let head = heads[n];
+    let left = rows::load(images[n][0]);
+    let right = rows::load(images[n][1]);
+    Pending {
+        number: (head[0] % 256) as u8,
+        left,
+        left_node: NodeId(head[1]),
+        right,
+        right_node: NodeId(head[2]),
+    }
+}
+
+// What waits at place n, and the images of its sides: read where they lie. The number is a byte, as at top.
+pub fn nodes_at(heads: &Heads, n: usize) -> Nodes
+    requires { n < most_waiting }
+    ensures { result ≡ nodes_at heads.now n }
+{
+    let h = heads[n];
+    Nodes {
+        number: (h[0] % 256) as u8,
+        left: NodeId(h[1]),
+        right: NodeId(h[2]),
+    }
+}
+
+// Two functions, as left_at and right_at are two definitions: one with the side as a parameter would need a third, and be no plainer where it is called.
+pub fn left_image(images: &Images, n: usize, atoms: usize, a: Atom) -> Atom
+    requires { (n < most_waiting) × (atoms ≤ 32) }
+    ensures { result.0 ≡ image (left_at atoms images.now n) a.0 }
+{
+    rows::image(&images[n][0], atoms, a)
+}
+
+pub fn right_image(images: &Images, n: usize, atoms: usize, a: Atom) -> Atom
+    requires { (n < most_waiting) × (atoms ≤ 32) }
+    ensures { result.0 ≡ image (right_at atoms images.now n) a.0 }
+{
+    rows::image(&images[n][1], atoms, a)
+}
+
+// The atom that the right side's images send to a.
+pub fn right_preimage(images: &Images, n: usize, atoms: usize, a: Atom) -> Atom
+    requires { (n < most_waiting) × (atoms ≤ 32) × (a.0 < atoms) }
+    ensures { result.0 ≡ image (inverted (right_at atoms images.now n)) a.0 }
+{
+    rows::preimage(&images[n][1], atoms, a)
+}
+
+// The disagreement set of the two sides' images.
+pub fn disagreement(images: &Images, n: usize, atoms: usize) -> AtomSet
+    requires { (n < most_waiting) × (atoms ≤ 32) }
+    ensures { result.0 ≡ of_list 32 (disagreement (left_at atoms images.now n) (right_at atoms images.now n)) }
+{
+    rows::disagreement(&images[n][0], &images[n][1], atoms)
+}
+
+// The right side at place n is put under the swap of a and b.
+pub fn swap_right(images: &mut Images, n: usize, a: Atom, b: Atom)
+    requires { n < most_waiting }
+    ensures { RightSwapped a.0 b.0 n images.old images.new }
+{
+    let images: &mut [[Row; 2]] = images;
+    let pair: &mut [Row] = &mut images[n];
+    rows::swap_after(&mut pair[1], a, b);
+}
+
+// Other nodes for the equation at place n, under the same images.
+pub fn renew(heads: &mut Heads, n: usize, number: u8, left: NodeId, right: NodeId)
+    requires { n < most_waiting }
+    ensures { Renewed n number left right heads.old heads.new }
+{
+    let heads: &mut [[u16; 3]] = heads;
+    heads[n] = [u16::from(number), left.0, right.0];
+}
+
 // The two tables, lent together. Where a table is written it is taken as a slice: so its length is known, which an array behind a reference does not tell.
 #[derive(Drop)]
 pub struct Stack<'a> {
@@ -78,23 +159,11 @@ impl<'a> Stack<'a> {
         pair[1] = right;
     }
 
-    // The equation above n others. Its number is a byte, kept where there is room for two.
     pub fn top(&self, n: usize) -> Pending
         requires { n < most_waiting }
         ensures { Topped (stack_tables self.now.heads.now self.now.images.now) n result }
     {
-        let heads = &*self.heads;
-        let head = heads[n];
-        let images = &*self.images;
-        let left = rows::load(images[n][0]);
-        let right = rows::load(images[n][1]);
-        Pending {
-            number: (head[0] % 256) as u8,
-            left,
-            left_node: NodeId(head[1]),
-            right,
-            right_node: NodeId(head[2]),
-        }
+        top(self.heads, self.images, n)
     }
 
     // The problem's equations, "the file's first on top": so the last is pushed first. count is their number.
@@ -120,76 +189,57 @@ impl<'a> Stack<'a> {
         }
     }
 
-    // What waits at place n, and the images of its sides: read where they lie. The number is a byte, as at top.
     pub fn nodes_at(&self, n: usize) -> Nodes
         requires { n < most_waiting }
         ensures { result ≡ nodes_at self.now.heads.now n }
     {
-        let heads = &*self.heads;
-        let h = heads[n];
-        Nodes {
-            number: (h[0] % 256) as u8,
-            left: NodeId(h[1]),
-            right: NodeId(h[2]),
-        }
+        nodes_at(self.heads, n)
     }
 
-    // Two methods, as left_at and right_at are two definitions: one with the side as a parameter would need a third, and be no plainer where it is called.
     pub fn left_image(&self, n: usize, atoms: usize, a: Atom) -> Atom
         requires { (n < most_waiting) × (atoms ≤ 32) }
         ensures { result.0 ≡ image (left_at atoms self.now.images.now n) a.0 }
     {
-        let images = &*self.images;
-        rows::image(&images[n][0], atoms, a)
+        left_image(self.images, n, atoms, a)
     }
 
     pub fn right_image(&self, n: usize, atoms: usize, a: Atom) -> Atom
         requires { (n < most_waiting) × (atoms ≤ 32) }
         ensures { result.0 ≡ image (right_at atoms self.now.images.now n) a.0 }
     {
-        let images = &*self.images;
-        rows::image(&images[n][1], atoms, a)
+        right_image(self.images, n, atoms, a)
     }
 
-    // The atom that the right side's images send to a.
     pub fn right_preimage(&self, n: usize, atoms: usize, a: Atom) -> Atom
         requires { (n < most_waiting) × (atoms ≤ 32) × (a.0 < atoms) }
         ensures { result.0 ≡ image (inverted (right_at atoms self.now.images.now n)) a.0 }
     {
-        let images = &*self.images;
-        rows::preimage(&images[n][1], atoms, a)
+        right_preimage(self.images, n, atoms, a)
     }
 
-    // The disagreement set of the two sides' images.
     pub fn disagreement(&self, n: usize, atoms: usize) -> AtomSet
         requires { (n < most_waiting) × (atoms ≤ 32) }
         ensures { result.0 ≡ of_list 32 (disagreement (left_at atoms self.now.images.now n) (right_at atoms self.now.images.now n)) }
     {
-        let images = &*self.images;
-        rows::disagreement(&images[n][0], &images[n][1], atoms)
+        disagreement(self.images, n, atoms)
     }
 
-    // The right side at place n is put under the swap of a and b.
     pub fn swap_right(&mut self, n: usize, a: Atom, b: Atom)
         requires { n < most_waiting }
         ensures same { (self.new.heads.ghost_name ≡ self.old.heads.ghost_name) × (self.new.images.ghost_name ≡ self.old.images.ghost_name) }
         ensures heads { self.new.heads.now ≡ self.old.heads.now }
         ensures images { RightSwapped a.0 b.0 n self.old.images.now self.new.images.now }
     {
-        let images: &mut [[Row; 2]] = self.images;
-        let pair: &mut [Row] = &mut images[n];
-        rows::swap_after(&mut pair[1], a, b);
+        swap_right(self.images, n, a, b)
     }
 
-    // Other nodes for the equation at place n, under the same images.
     pub fn renew(&mut self, n: usize, number: u8, left: NodeId, right: NodeId)
         requires { n < most_waiting }
         ensures same { (self.new.heads.ghost_name ≡ self.old.heads.ghost_name) × (self.new.images.ghost_name ≡ self.old.images.ghost_name) }
         ensures heads { Renewed n number left right self.old.heads.now self.new.heads.now }
         ensures images { self.new.images.now ≡ self.old.images.now }
     {
-        let heads: &mut [[u16; 3]] = self.heads;
-        heads[n] = [u16::from(number), left.0, right.0];
+        renew(self.heads, n, number, left, right)
     }
 
     // Two equations for the one at place n, under its images: these nodes stay there, and place n + 1 gets its images for what comes above. It is the

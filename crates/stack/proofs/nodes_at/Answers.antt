@@ -1,6 +1,6 @@
 use Rattle.std.proofs.Common.{rules}
 use Rattle.stack.specs.InPlace.{nodes_at}
-use Rattle.stack.proofs.Stack.nodes_at.Goals as goal
+use Rattle.stack.proofs.nodes_at.Goals as goal
 
 pub returns : goal.returns
 unfolding nodes_at

@@ -1,12 +1,12 @@
 use Rattle.std.proofs.Common.{◌≡◌, ◌<◌, arith, List, [], ℕ, length, get_or}
 use Rattle.std.proofs.Math.Seq.{get_or-set_same, get_or-set_other}
 use Rattle.stack.proofs.InPlace.{right_swapped}
-use Rattle.stack.proofs.Stack.swap_right.Goals as goal
+use Rattle.stack.proofs.swap_right.Goals as goal
 
-pub returns-clause-images : goal.returns-clause-images
-returns-clause-images c =
+pub returns : goal.returns
+returns c =
     let a = c.args in
-    let images = a.self.now.images.now in
+    let images = a.images.now in
     let pair : List (List ℕ) = get_or images a.n [] in
     let there : a.n < length images = omega (arith, c.requires) in
     let two : length pair ≡ 2 = omega arith in

@@ -1,5 +1,5 @@
 use Rattle.stack.specs.InPlace.{left_at}
-use Rattle.stack.proofs.Stack.left_image.Goals as goal
+use Rattle.stack.proofs.left_image.Goals as goal
 
 pub returns : goal.returns
 unfolding left_at

@@ -1,5 +1,5 @@
 use Rattle.stack.specs.InPlace.{left_at, right_at}
-use Rattle.stack.proofs.Stack.disagreement.Goals as goal
+use Rattle.stack.proofs.disagreement.Goals as goal
 
 pub returns : goal.returns
 unfolding left_at right_at

@@ -1,5 +1,5 @@
 use Rattle.stack.specs.InPlace.{right_at}
-use Rattle.stack.proofs.Stack.right_image.Goals as goal
+use Rattle.stack.proofs.right_image.Goals as goal
 
 pub returns : goal.returns
 unfolding right_at

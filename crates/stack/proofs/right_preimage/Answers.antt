@@ -1,5 +1,5 @@
 use Rattle.stack.specs.InPlace.{right_at}
-use Rattle.stack.proofs.Stack.right_preimage.Goals as goal
+use Rattle.stack.proofs.right_preimage.Goals as goal
 
 pub returns : goal.returns
 unfolding right_at

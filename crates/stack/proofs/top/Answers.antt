@@ -1,6 +1,6 @@
 use Rattle.stack.specs.Stack.{pending_at}
 use Rattle.stack.proofs.Laws.{topped}
-use Rattle.stack.proofs.Stack.top.Goals as goal
+use Rattle.stack.proofs.top.Goals as goal
 
 pub returns : goal.returns
 unfolding pending_at
