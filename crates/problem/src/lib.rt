@@ -34,10 +34,11 @@ pub const EMPTY_PLACES: Places = [0; FIELDS];
 // Standing is no part of the type: form_of, bare, swaps_of, equation_at, freshness_at, which docs/PROVED.md names, ask for one node or field alone.
 // A type that says it of all would ask more of who calls them. A type of its own was tried: Standing has more than one proof, as a field can stand in two
 // places alike, and a ghost field takes a fact that has one. An input with its atoms as one value would add a word to each path in thirty contracts.
+// Two lifetimes: what is handed back as a part of the input (`swaps_of`) may outlive the loan of the table.
 #[derive(Clone, Copy)]
-pub struct Input<'a> {
+pub struct Input<'a, 't> {
     pub bytes: &'a [u8],
-    pub places: &'a Places,
+    pub places: &'t Places,
     ghost are_bytes: { Bytes bytes.now },
 }
 

@@ -62,7 +62,7 @@ pub fn assumed_for(assumed: &Assumed, x: Variable) -> AtomSet
     Set(assumed[usize::from(x.0)])
 }
 
-impl<'a> Input<'a> {
+impl<'a, 't> Input<'a, 't> {
     // The form that a node of the input has.
     #[tactic(auto, using(crate::proofs::Looking::form_kept))]
     pub fn form_of(&self, n: NodeId) -> Form
