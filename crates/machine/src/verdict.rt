@@ -40,7 +40,17 @@ fn go(
     let mut state = start;
     let mut steps: u32 = 0;
     loop {
-        let went = quick::go(input, work, atoms, state, steps, limit);
+        let bindings = work.bindings.shown();
+        let went = quick::go(
+            input,
+            &mut work.stack,
+            &bindings,
+            &mut work.demands,
+            atoms,
+            state,
+            steps,
+            limit,
+        );
         state.waiting = went.waiting;
         steps = went.steps;
         if state.waiting == 0 {
