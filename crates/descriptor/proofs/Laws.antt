@@ -11,7 +11,7 @@ pub none_moved : (z : Result ℕ ℤ) → failed_of z ≡ true → 0 ≡ moved_o
 none_moved (Ok k) e = absurd (subst T (sym e) tt)
 none_moved (Err x) e = refl
 
--- A call may answer what it may answer, by whatever name its bytes are counted.
+-- What a call may answer goes by how many bytes it is handed.
 pub read_back : (z : Result ℕ ℤ) {n m : ℕ} → m ≡ n → Moved n z → Moved m z
 read_back z e k = rw e k
 
