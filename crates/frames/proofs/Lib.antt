@@ -1,1 +1,2 @@
 pub mod Stopping
+pub mod Within

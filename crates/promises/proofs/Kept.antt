@@ -145,3 +145,10 @@ solver_keeps input output after r b contract =
 pub judge_keeps : (input : List ℕ) (j : std.Result Unit Refusal) → Bytes input → judgement_given j ≡ judge input
     → FirstJudged input (judge_gives j) × SecondJudged input (judge_gives j)
 judge_keeps input j b contract = (first_judged input (judge_gives j) b contract, second_judged input (judge_gives j) b contract)
+
+-- Of two calls of the solver.
+pub solver_keeps_twice : (s t d e after later : List ℕ) (r u : std.Result ℕ Refusal) (p q : Problem) → Bytes s → Bytes t → reading base_tags s ≡ read p
+    → reading base_tags t ≡ read q → result_of r after ≡ solve s d → result_of u later ≡ solve t e → SameDemands p q
+    → ThirdTwice p q (solver_gives r) (solver_gives u)
+solver_keeps_twice s t d e after later r u p q b c reads too contract other same =
+    third_twice s t d e after later (solver_gives r) (solver_gives u) p q b c reads too contract other same

@@ -7,6 +7,7 @@ use mathlib.Core.List.{List, [], ◌∷◌}
 use lib.Dec.{T, eqb}
 use mir.Val.{has_key}
 use borrow.Enum.Refused.{Among, opened}
+use types.Run.{OneOf}
 use denote.Enum.Declared.{tag_of}
 use Rattle.names.specs.declared.NodeId.{NodeId}
 use Rattle.names.specs.declared.Variable.{Variable}
@@ -70,9 +71,14 @@ pub compound_among : (w : Form) → Among (0 ∷ 1 ∷ 2 ∷ 3 ∷ 4 ∷ []) (ta
 compound_among w h = compound w (opened h)
 
 -- The left form's tag is k, and the right one's is another.
+pub clashing : (P Q : Table) (v w : Form) (k : ℕ) (others : List ℕ) → T (not (has_key others k)) → tag_of the_type v ≡ k → OneOf others (tag_of the_type w)
+    → Compounds P Q v w Clash
+clashing P Q v w k others n e h = different (λ q. not_kind others k n w h (sym q ∙ sym (tag_kind v) ∙ e))
+
+-- The same where the right one's is known as an arm that takes the other forms knows it.
 pub clashing_among : (P Q : Table) (v w : Form) (k : ℕ) (others : List ℕ) → T (not (has_key others k)) → tag_of the_type v ≡ k
     → Among others (tag_of the_type w) → Compounds P Q v w Clash
-clashing_among P Q v w k others n e h = different (λ q. not_kind others k n w (opened h) (sym q ∙ sym (tag_kind v) ∙ e))
+clashing_among P Q v w k others n e h = clashing P Q v w k others n e (opened h)
 
 -- By which of the two sides is a suspension.
 module _ (A : ℕ) (protected : ℕ → Bool) (bound : ℕ) (made : List (List ℕ)) (variables_of_nodes : List ℕ) (l r : HeldSide) (act : Act) where
