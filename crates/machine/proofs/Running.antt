@@ -21,13 +21,14 @@ use Rattle.room.specs.Stacks.{at_start, after_step}
 use Rattle.stack.specs.Stack.{Stack, stack_of, equation_of, Topped, Started}
 use Rattle.stack.specs.declared.Pending.{Pending}
 use Rattle.stack.proofs.Laws.{stack_of_none, length_stack_of}
-use Rattle.bindings.specs.Bindings.{Bindings, bindings_of}
-use Rattle.demands.specs.Demands.{sheet, demands_cleared}
+use Rattle.bindings.specs.Bindings.{Bindings, binding_tables, bindings_of}
+use Rattle.demands.specs.Demands.{Sheet, sheet, demands_cleared}
 use Rattle.demands.proofs.Laws.{raised_none}
 use Rattle.side.specs.Side.{ground_in}
 use Rattle.perform.specs.declared.State.{State}
-use Rattle.perform.specs.Performed.{StepTables, reason_of, Performed}
-use Rattle.quick.specs.Going.{FromStart, end_of, Going}
+use Rattle.perform.specs.Performed.{StepTables, tables_of, reason_of, Performed}
+use Rattle.quick.specs.Going.{FromStart, end_of, Going, state_at, CarriedOn}
+use Rattle.quick.specs.declared.Went.{Went}
 use Rattle.quick.proofs.Underway.{few_wait}
 use Rattle.machine.specs.Step.{Footing, Present, step_here}
 use Rattle.machine.specs.Run.{Ready, Founded, Began, RunEnded}
@@ -66,6 +67,15 @@ going_start {L = L} h =
     }
 
 -- ---- on the way
+
+-- By the steps that are taken where the equation lies. The bindings are only shown to them, as the tables have them.
+pub going_quick : {s : List ℕ} {A w L : ℕ} {first : List Binding} {before after : Stack} {made made_shown values values_shown : List (List ℕ)}
+    {asked asked_after : Sheet} {taken : ℕ} {state : State} {went : Went} → (made_shown ≡ made) × (values_shown ≡ values)
+    → CarriedOn s A L (tables_of before (binding_tables made_shown values_shown) asked) taken state
+    (tables_of after (binding_tables made_shown values_shown) asked_after) went
+    → Going s A w L first (tables_of before (binding_tables made values) asked) taken state
+    → Going s A w L first (tables_of after (binding_tables made values) asked_after) went.steps (state_at state went)
+going_quick shown carried h = (rw (shown.0, shown.1) at carried).going _ _ h
 
 -- The state without the equation on top.
 abbrev pub below : State → State

@@ -40,11 +40,21 @@ fn go(
     let mut state = start;
     let mut steps: u32 = 0;
     loop {
-        let went = quick::go(input, work, atoms, state, steps, limit);
+        let bindings = work.bindings.shown();
+        let went = quick::go(
+            input,
+            &mut work.stack,
+            &bindings,
+            &mut work.demands,
+            atoms,
+            state,
+            steps,
+            limit,
+        );
         state.waiting = went.waiting;
         steps = went.steps;
         if state.waiting == 0 {
-            return Ok(Ran {
+            break Ok(Ran {
                 steps,
                 bound: state.bound,
                 count: state.count,
@@ -54,12 +64,12 @@ fn go(
         let e = work.stack.top(state.waiting);
         let place = usize::from(e.number);
         if limit <= steps {
-            return Err(refuse(Reason::Limit, place));
+            break Err(refuse(Reason::Limit, place));
         }
         // By a match: with map_err and ? it was tried, and at the exit of ? what the closure promises is out of the answers' reach.
         state = match step(input, node_variables, work, atoms, protected, state, e) {
             Ok(next) => next,
-            Err(reason) => return Err(refuse(reason, place)),
+            Err(reason) => break Err(refuse(reason, place)),
         };
         steps += 1;
     }

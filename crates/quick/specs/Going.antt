@@ -6,13 +6,21 @@ use Rattle.run.specs.Meaning.{Binding}
 use Rattle.run.specs.Run.{Equation, Demand, End, run, equations_from}
 use Rattle.run.specs.Circle.{Circleless}
 use Rattle.room.specs.Stacks.{Reaches}
-use Rattle.stack.specs.Stack.{stack_of}
-use Rattle.bindings.specs.Bindings.{bindings_of, Keeps}
-use Rattle.demands.specs.Demands.{Raised}
+use Rattle.stack.specs.Stack.{stack_tables, stack_of}
+use Rattle.stack.specs.declared.Stack.{Stack}
+use Rattle.bindings.specs.Bindings.{binding_tables, bindings_of, Keeps}
+use Rattle.bindings.specs.declared.Shown.{Shown}
+use Rattle.demands.specs.Demands.{sheet, Raised}
+use Rattle.demands.specs.declared.Demands.{Demands}
 use Rattle.side.specs.Side.{ground_in}
-use Rattle.perform.specs.Performed.{StepTables}
+use Rattle.perform.specs.Performed.{StepTables, tables_of}
 use Rattle.perform.specs.declared.State.{State}
 use Rattle.quick.specs.declared.Went.{Went}
+
+-- The tables as they are lent: what waits and the demands change in place, the bindings are only read.
+abbrev pub tables_lent : Stack → Shown → Demands → StepTables
+tables_lent s b d =
+    tables_of (stack_tables s.heads.now s.images.now) (binding_tables b.made.now b.values.now) (sheet d.asked.now d.firsts.now)
 
 -- What the run of the problem comes to from its start with the bindings `first`, and the variables of the set w protected.
 abbrev pub FromStart : List ℕ → ℕ → List Binding → List Equation → List Binding → List Demand → Type 0

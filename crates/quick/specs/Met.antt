@@ -10,10 +10,11 @@ use Rattle.run.specs.Run.{Subject, Demand, top, resolved, Step, goes_on, rule, d
 use Rattle.run.specs.Circle.{Fits}
 use Rattle.stack.specs.Stack.{most_waiting, stack_tables, stack_of}
 use Rattle.stack.specs.InPlace.{left_at, right_at}
+use Rattle.stack.specs.declared.Stack.{Stack}
 use Rattle.bindings.specs.Bindings.{Bindings, bindings_of, Keeps, NodesThere}
 use Rattle.demands.specs.Demands.{Sheet, sheet, Raised}
+use Rattle.demands.specs.declared.Demands.{Demands}
 use Rattle.side.specs.Side.{ground_in, is_bound}
-use Rattle.perform.specs.declared.Work.{Work}
 use Rattle.quick.specs.declared.Meeting.{Meeting}
 use Rattle.quick.specs.declared.Meeting.TheVariants.{Leave, Done, Part, Parts}
 
@@ -47,14 +48,16 @@ pub record MeetTables : Type 0 where
 abbrev pub meet_tables : List (List (List ℕ)) → List (List ℕ) → List (List ℕ) → MeetTables
 meet_tables images asked firsts = record { images = images; sheet = sheet asked firsts }
 
--- Among those that a run works in; and the others stay.
-abbrev pub met_in : Work → MeetTables
-met_in w = meet_tables w.stack.images.now w.demands.asked.now w.demands.firsts.now
+-- Among those that are lent.
+abbrev pub met_in : Stack → Demands → MeetTables
+met_in s d = meet_tables s.images.now d.asked.now d.firsts.now
 
-pub record OthersStay (before after : Work) : Type 0 where
-  pub heads : after.stack.heads.now ≡ before.stack.heads.now
-  pub made : after.bindings.made.now ≡ before.bindings.made.now
-  pub values : after.bindings.values.now ≡ before.bindings.values.now
+-- The tables are those still that were lent.
+pub record SameLent (stack stack_after : Stack) (demands demands_after : Demands) : Type 0 where
+  pub heads : stack_after.heads.ghost_name ≡ stack.heads.ghost_name
+  pub images : stack_after.images.ghost_name ≡ stack.images.ghost_name
+  pub asked : demands_after.asked.ghost_name ≡ demands.asked.ghost_name
+  pub firsts : demands_after.firsts.ghost_name ≡ demands.firsts.ghost_name
 
 -- What is left of the equation at place n, from the top down: under the images that stand there then.
 abbrev pub left_of : ℕ → List (List (List ℕ)) → ℕ → Meeting → List (Side × Side)

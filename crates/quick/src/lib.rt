@@ -12,14 +12,14 @@ ghost use Rattle.run.specs.Circle.{Permuting};
 ghost use Rattle.stack.specs.Stack.{most_waiting};
 ghost use Rattle.stack.specs.InPlace.{left_at, right_at, Renewed};
 ghost use Rattle.bindings.specs.Bindings.{binding_tables};
-ghost use Rattle.perform.specs.Performed.{SameTables, tables_in};
-ghost use Rattle.quick.specs.Going.{SomeGoing, CarriedOn};
-ghost use Rattle.quick.specs.Met.{side_under, LeadsTo, Facing, met_in, OthersStay, Taken, Meets};
+ghost use Rattle.quick.specs.Going.{tables_lent, SomeGoing, CarriedOn};
+ghost use Rattle.quick.specs.Met.{side_under, LeadsTo, Facing, met_in, SameLent, Taken, Meets};
 ghost use Rattle.quick.specs.declared.Meeting.TheVariants.{Leave, Done, Part};
 
-use bindings::Bindings;
+use bindings::Shown;
+use demands::Demands;
 use names::{Atom, NodeId};
-use perform::{State, Work};
+use perform::State;
 use problem::{Form, Input};
 use sets::VariableSet;
 use stack::Stack;
@@ -42,12 +42,14 @@ enum Meeting {
 }
 
 // Where a node leads: a suspension without swaps, of a variable that is bound to a node as it is, leads to that node.
-fn through(input: &Input, bindings: &Bindings, bound: VariableSet, node: NodeId) -> NodeId
+fn through(input: &Input, bindings: &Shown, bound: VariableSet, node: NodeId) -> NodeId
     requires { Standing input.now.bytes.now input.now.places.now × (node.0 < length (problem_of input.now.bytes.now).nodes) }
     ensures { LeadsTo input.now.bytes.now (binding_tables bindings.now.made.now bindings.now.values.now) bound.0 node result }
 {
     match input.bare(node) {
-        Some(x) if bound.has(x) && bindings.is_plain(x) => bindings.node_of(x),
+        Some(x) if bound.has(x) && bindings::is_plain(bindings.values, x) => {
+            bindings::node_of(bindings.made, x)
+        }
         _ => node,
     }
 }
@@ -66,7 +68,8 @@ fn atoms_meet(stack: &Stack, n: usize, atoms: usize, a: Atom, b: Atom) -> Meetin
 
 // "with a equal to b, s against t; else s against t under the swap of a and b, and a is demanded fresh for t."
 fn abstractions_meet(
-    work: &mut Work,
+    stack: &mut Stack,
+    demands: &mut Demands,
     n: usize,
     number: u8,
     atoms: usize,
@@ -76,20 +79,20 @@ fn abstractions_meet(
     k: NodeId,
 ) -> Meeting
     requires { (n < most_waiting) × (atoms ≤ 32) × (a.0 < atoms) × (k.0 < 512)
-        × Permuting atoms (left_at atoms work.old.stack.images.now n) × Permuting atoms (right_at atoms work.old.stack.images.now n) }
-    ensures same { SameTables work.old work.new }
-    ensures others { OthersStay work.old work.new }
+        × Permuting atoms (left_at atoms stack.old.images.now n) × Permuting atoms (right_at atoms stack.old.images.now n) }
+    ensures same { SameLent stack.old stack.new demands.old demands.new }
+    ensures heads { stack.new.heads.now ≡ stack.old.heads.now }
     ensures taken { (result ≡ Part m k) × Taken atoms number n
-        (abstractions (image (left_at atoms work.old.stack.images.now n) a.0) (side_under (left_at atoms work.old.stack.images.now n) m)
-        (image (right_at atoms work.old.stack.images.now n) b.0) (side_under (right_at atoms work.old.stack.images.now n) k)) (Part m k)
-        (met_in work.old) (met_in work.new) }
+        (abstractions (image (left_at atoms stack.old.images.now n) a.0) (side_under (left_at atoms stack.old.images.now n) m)
+        (image (right_at atoms stack.old.images.now n) b.0) (side_under (right_at atoms stack.old.images.now n) k)) (Part m k)
+        (met_in stack.old demands.old) (met_in stack.new demands.new) }
 {
-    let x = work.stack.left_image(n, atoms, a);
-    let y = work.stack.right_image(n, atoms, b);
+    let x = stack.left_image(n, atoms, a);
+    let y = stack.right_image(n, atoms, b);
     if x != y {
-        let c = work.stack.right_preimage(n, atoms, x);
-        work.demands.raise_node(c, k, number);
-        work.stack.swap_right(n, x, y);
+        let c = stack.right_preimage(n, atoms, x);
+        demands.raise_node(c, k, number);
+        stack.swap_right(n, x, y);
     }
     Meeting::Part(m, k)
 }
@@ -107,7 +110,8 @@ fn applications_meet(h: u16, m: NodeId, i: u16, k: NodeId) -> Meeting
 // "Suspensions of one variable X: each atom of the disagreement set is demanded fresh for X": here of a variable that is not bound, without swaps.
 fn suspensions_meet(
     input: &Input,
-    work: &mut Work,
+    stack: &Stack,
+    demands: &mut Demands,
     bound: VariableSet,
     n: usize,
     number: u8,
@@ -115,10 +119,10 @@ fn suspensions_meet(
     l: NodeId,
     r: NodeId,
 ) -> Meeting
-    requires { Facing input.now.bytes.now input.now.places.now atoms n work.old.stack.images.now l r }
-    ensures same { SameTables work.old work.new }
-    ensures others { OthersStay work.old work.new }
-    ensures meets { Meets input.now.bytes.now atoms bound.0 number n l r (met_in work.old) (met_in work.new) result }
+    requires { Facing input.now.bytes.now input.now.places.now atoms n stack.now.images.now l r }
+    ensures same { (demands.new.asked.ghost_name ≡ demands.old.asked.ghost_name) × (demands.new.firsts.ghost_name ≡ demands.old.firsts.ghost_name) }
+    ensures meets { Meets input.now.bytes.now atoms bound.0 number n l r
+        (met_in stack.now demands.old) (met_in stack.now demands.new) result }
 {
     let (Some(x), Some(y)) = (input.bare(l), input.bare(r)) else {
         return Meeting::Leave;
@@ -126,9 +130,9 @@ fn suspensions_meet(
     if x != y || bound.has(x) {
         return Meeting::Leave;
     }
-    let d = work.stack.disagreement(n, atoms);
+    let d = stack.disagreement(n, atoms);
     if !d.is_empty() {
-        work.demands.raise_variable(d, x, number);
+        demands.raise_variable(d, x, number);
     }
     Meeting::Done
 }
@@ -137,7 +141,8 @@ fn suspensions_meet(
 // a variable.
 fn meet(
     input: &Input,
-    work: &mut Work,
+    stack: &mut Stack,
+    demands: &mut Demands,
     bound: VariableSet,
     n: usize,
     number: u8,
@@ -145,21 +150,22 @@ fn meet(
     l: NodeId,
     r: NodeId,
 ) -> Meeting
-    requires { Facing input.now.bytes.now input.now.places.now atoms n work.old.stack.images.now l r }
-    ensures same { SameTables work.old work.new }
-    ensures others { OthersStay work.old work.new }
-    ensures meets { Meets input.now.bytes.now atoms bound.0 number n l r (met_in work.old) (met_in work.new) result }
+    requires { Facing input.now.bytes.now input.now.places.now atoms n stack.old.images.now l r }
+    ensures same { SameLent stack.old stack.new demands.old demands.new }
+    ensures heads { stack.new.heads.now ≡ stack.old.heads.now }
+    ensures meets { Meets input.now.bytes.now atoms bound.0 number n l r
+        (met_in stack.old demands.old) (met_in stack.new demands.new) result }
 {
     match (input.form_of(l), input.form_of(r)) {
         (Form::Unit, Form::Unit) => Meeting::Done,
-        (Form::Atom(a), Form::Atom(b)) => atoms_meet(&work.stack, n, atoms, a, b),
+        (Form::Atom(a), Form::Atom(b)) => atoms_meet(stack, n, atoms, a, b),
         (Form::Abstraction(a, m), Form::Abstraction(b, k)) => abstractions_meet(
-            work, n, number, atoms, a, m, b, k,
+            stack, demands, n, number, atoms, a, m, b, k,
         ),
         (Form::Pair(m, o), Form::Pair(k, p)) => Meeting::Parts(m, o, k, p),
         (Form::Application(h, m), Form::Application(i, k)) => applications_meet(h, m, i, k),
         (Form::Suspension(_), Form::Suspension(_)) => suspensions_meet(
-            input, work, bound, n, number, atoms, l, r,
+            input, stack, demands, bound, n, number, atoms, l, r,
         ),
         _ => Meeting::Leave,
     }
@@ -180,23 +186,32 @@ fn wait(stack: &mut Stack, n: usize, number: u8, l: NodeId, r: NodeId, steps: u3
 }
 
 // Steps from the equation on top on, down along its first parts, which stay with the loop: until it is done, or is to wait.
-fn down(input: &Input, work: &mut Work, atoms: usize, state: State, taken: u32, limit: u32) -> Went
+fn down(
+    input: &Input,
+    stack: &mut Stack,
+    bindings: &Shown,
+    demands: &mut Demands,
+    atoms: usize,
+    state: State,
+    taken: u32,
+    limit: u32,
+) -> Went
     requires standing { Standing input.now.bytes.now input.now.places.now × (atoms ≡ (problem_of input.now.bytes.now).atoms) × (state.waiting ≢ 0) }
-    requires some_going { SomeGoing input.now.bytes.now atoms limit (tables_in work.old) taken state }
-    ensures same { SameTables work.old work.new }
-    ensures bindings { (tables_in work.new).bindings ≡ (tables_in work.old).bindings }
-    ensures carried { CarriedOn input.now.bytes.now atoms limit (tables_in work.old) taken state (tables_in work.new) result }
+    requires some_going { SomeGoing input.now.bytes.now atoms limit (tables_lent stack.old bindings.now demands.old) taken state }
+    ensures same { SameLent stack.old stack.new demands.old demands.new }
+    ensures carried { CarriedOn input.now.bytes.now atoms limit (tables_lent stack.old bindings.now demands.old) taken state
+        (tables_lent stack.new bindings.now demands.new) result }
 {
     let mut n = state.waiting - 1;
-    let top = work.stack.nodes_at(n);
+    let top = stack.nodes_at(n);
     let number = top.number;
     let mut l = top.left;
     let mut r = top.right;
     for steps in taken..limit {
-        let i = through(input, &work.bindings, state.bound, l);
-        let j = through(input, &work.bindings, state.bound, r);
-        match meet(input, work, state.bound, n, number, atoms, i, j) {
-            Meeting::Leave => return wait(&mut work.stack, n, number, l, r, steps),
+        let i = through(input, bindings, state.bound, l);
+        let j = through(input, bindings, state.bound, r);
+        match meet(input, stack, demands, state.bound, n, number, atoms, i, j) {
+            Meeting::Leave => return wait(stack, n, number, l, r, steps),
             Meeting::Done => {
                 return Went {
                     waiting: n,
@@ -208,30 +223,32 @@ fn down(input: &Input, work: &mut Work, atoms: usize, state: State, taken: u32, 
                 r = k;
             }
             Meeting::Parts(m, o, k, p) => {
-                work.stack.split(n, number, o, p);
+                stack.split(n, number, o, p);
                 n += 1;
                 l = m;
                 r = k;
             }
         }
     }
-    wait(&mut work.stack, n, number, l, r, limit)
+    wait(stack, n, number, l, r, limit)
 }
 
 // As many steps as can be taken so, one equation after the other.
 pub fn go(
     input: &Input,
-    work: &mut Work,
+    stack: &mut Stack,
+    bindings: &Shown,
+    demands: &mut Demands,
     atoms: usize,
     start: State,
     taken: u32,
     limit: u32,
 ) -> Went
     requires standing { Standing input.now.bytes.now input.now.places.now × (atoms ≡ (problem_of input.now.bytes.now).atoms) }
-    requires some_going { SomeGoing input.now.bytes.now atoms limit (tables_in work.old) taken start }
-    ensures same { SameTables work.old work.new }
-    ensures bindings { (tables_in work.new).bindings ≡ (tables_in work.old).bindings }
-    ensures carried { CarriedOn input.now.bytes.now atoms limit (tables_in work.old) taken start (tables_in work.new) result }
+    requires some_going { SomeGoing input.now.bytes.now atoms limit (tables_lent stack.old bindings.now demands.old) taken start }
+    ensures same { SameLent stack.old stack.new demands.old demands.new }
+    ensures carried { CarriedOn input.now.bytes.now atoms limit (tables_lent stack.old bindings.now demands.old) taken start
+        (tables_lent stack.new bindings.now demands.new) result }
 {
     let mut went = Went {
         waiting: start.waiting,
@@ -243,7 +260,7 @@ pub fn go(
             waiting: went.waiting,
             ..start
         };
-        went = down(input, work, atoms, state, before, limit);
+        went = down(input, stack, bindings, demands, atoms, state, before, limit);
         if went.steps == before {
             return went;
         }

@@ -12,7 +12,7 @@ pub nodes_at-top-requires : goal.nodes_at-top-requires
 nodes_at-top-requires c = omega (arith, c.requires.standing.2, some_few c.requires.standing.0 c.requires.some_going)
 
 pub loop-steps-init : goal.loop-steps-init
-loop-steps-init c = (down_start c.requires.standing c.requires.some_going c.nodes_at-top.ensures, search rules, search rules)
+loop-steps-init c = (down_start c.requires.standing c.requires.some_going c.nodes_at-top.ensures, search rules)
 
 -- ---- a turn of the loop
 
@@ -35,9 +35,8 @@ wait-requires-2 c = (down_facing c.loop-steps.invariant.0).placed
 
 pub returns-in-Leave-clause-carried : goal.returns-in-Leave-clause-carried
 returns-in-Leave-clause-carried c =
-    let others = c.in-Leave.ensures.others in
-    rw (c.wait.ensures.images, others.made, others.values)
-    (down_waits c.loop-steps.invariant.0 c.in-Leave.ensures.meets (rw others.heads at c.wait.ensures.waits))
+    rw c.wait.ensures.images
+    (down_waits c.loop-steps.invariant.0 c.in-Leave.ensures.meets (rw c.in-Leave.ensures.heads at c.wait.ensures.waits))
 
 pub returns-clause-carried : goal.returns-clause-carried
 returns-clause-carried c =
@@ -48,8 +47,7 @@ returns-clause-carried c =
 
 pub returns-in-Done-clause-carried : goal.returns-in-Done-clause-carried
 returns-in-Done-clause-carried c =
-    let others = c.in-Done.ensures.others in
-    rw (others.heads, others.made, others.values)
+    rw c.in-Done.ensures.heads
     (down_done c.loop-steps.invariant.0 c.through-i.ensures c.through-j.ensures c.loop-steps-test.true c.in-Done.ensures.meets)
 
 -- ---- it goes on with one part, or with two
@@ -64,19 +62,15 @@ overflow_add-n c =
 pub loop-steps-preserved : goal.loop-steps-preserved
 loop-steps-preserved c =
     elim c.match-meet.branch [
-      | in-Part w ↦
-          let others = w.in-Part.ensures.others in (
-            rw (w.work-is, w.n-is, w.l-is, w.r-is, others.heads, others.made, others.values)
-                (down_part c.loop-steps.invariant.0 c.through-i.ensures c.through-j.ensures c.loop-steps-test.true w.in-Part.ensures.meets),
-            search rules,
-            search rules,
-          )
-      | in-Parts w ↦
-          let others = w.in-Parts.ensures.others in (
-            rw (w.work-is, w.n-is, w.l-is, w.r-is, others.made, others.values)
-                (down_parts c.loop-steps.invariant.0 c.through-i.ensures c.through-j.ensures c.loop-steps-test.true w.in-Parts.ensures.meets
-                (rw others.heads at w.split.ensures.split)),
-            search rules,
-            search rules,
-          )
+      | in-Part w ↦ (
+        rw (w.stack-is, w.n-is, w.l-is, w.r-is, w.in-Part.ensures.heads)
+            (down_part c.loop-steps.invariant.0 c.through-i.ensures c.through-j.ensures c.loop-steps-test.true w.in-Part.ensures.meets),
+        search rules,
+      )
+      | in-Parts w ↦ (
+        rw (w.stack-is, w.n-is, w.l-is, w.r-is)
+            (down_parts c.loop-steps.invariant.0 c.through-i.ensures c.through-j.ensures c.loop-steps-test.true w.in-Parts.ensures.meets
+            (rw w.in-Parts.ensures.heads at w.split.ensures.split)),
+        search rules,
+      )
     ]

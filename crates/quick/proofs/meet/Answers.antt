@@ -12,7 +12,7 @@ returns-in-Unit-Unit-clause-meets c =
 pub returns-in-Atom-Atom-clause-meets : goal.returns-in-Atom-Atom-clause-meets
 returns-in-Atom-Atom-clause-meets c =
     let a = c.args in
-    meets_atoms a.input.now.bytes.now a.atoms a.bound.0 a.number a.n a.l a.r (met_in a.work.now)
+    meets_atoms a.input.now.bytes.now a.atoms a.bound.0 a.number a.n a.l a.r (met_in a.stack.now a.demands.now)
     (told_back _ c.in-Atom-Atom.ensures) (told_back _ c.in-Atom-Atom.ensures') c.atoms_meet.ensures
 
 pub returns-in-Abstraction-Abstraction-clause-meets : goal.returns-in-Abstraction-Abstraction-clause-meets
@@ -27,5 +27,5 @@ returns-in-Pair-Pair-clause-meets c = met_pairs (told_back _ c.in-Pair-Pair.ensu
 pub returns-in-Application-Application-clause-meets : goal.returns-in-Application-Application-clause-meets
 returns-in-Application-Application-clause-meets c =
     let a = c.args in
-    meets_applications a.input.now.bytes.now a.atoms a.bound.0 a.number a.n a.l a.r (met_in a.work.now)
+    meets_applications a.input.now.bytes.now a.atoms a.bound.0 a.number a.n a.l a.r (met_in a.stack.now a.demands.now)
     (told_back _ c.in-Application-Application.ensures) (told_back _ c.in-Application-Application.ensures') c.applications_meet.ensures
