@@ -12,7 +12,7 @@ ghost use Rattle.answer.specs.Written.{Wrote};
 ghost use Rattle.answer.specs.Fields.{steps_field, binding_field, fact_field};
 ghost use Rattle.answer.specs.Facts.{fact_set, facts_in, fact_bytes_of};
 
-use bindings::Bindings;
+use bindings::Shown;
 use demands::Asked;
 use names::{Atom, Variable};
 use numbers::{Reason, Solved};
@@ -75,31 +75,31 @@ impl<'a> Writer<'a> {
     }
 
     // The images of x's value, one at a time: its row is read where it lies.
-    fn images(&mut self, bindings: &Bindings, x: Variable, n: usize)
+    fn images(&mut self, bindings: &Shown, x: Variable, n: usize)
         requires { (n ≤ 32) × (x.0 < 64) × (self.old.at + n ≤ length self.old.output.now) }
         ensures same { self.new.output.ghost_name ≡ self.old.output.ghost_name }
         ensures wrote { Wrote self.old.output.now self.old.at (images_of n bindings.now.values.now x.0) self.new.at self.new.output.now }
     {
         for i in 0..n {
-            let a = bindings.image_of(n, x, Atom(i as u8));
+            let a = bindings::image_of(bindings.values, n, x, Atom(i as u8));
             self.put(a.0);
         }
     }
 
-    fn binding(&mut self, bindings: &Bindings, x: Variable, n: usize)
+    fn binding(&mut self, bindings: &Shown, x: Variable, n: usize)
         requires { (n ≤ 32) × (x.0 < 64) × (self.old.at + (6 + n) ≤ length self.old.output.now) }
         ensures same { self.new.output.ghost_name ≡ self.old.output.ghost_name }
         ensures wrote { Wrote self.old.output.now self.old.at (binding_field (binding_at n (binding_tables bindings.now.made.now bindings.now.values.now) x.0))
             self.new.at self.new.output.now }
     {
-        let node = bindings.node_of(x);
+        let node = bindings::node_of(bindings.made, x);
         self.front(0x40, 3 + n as u16);
         self.put(x.0);
         self.put_all(&node.0.to_be_bytes());
         self.images(bindings, x, n);
     }
 
-    fn bindings(&mut self, bindings: &Bindings, k: usize, atoms: usize)
+    fn bindings(&mut self, bindings: &Shown, k: usize, atoms: usize)
         requires { ((bound : ℕ) × Keeps bindings.now.made.now k bound) × (atoms ≤ 32)
             × (self.old.at + length (binding_bytes (bindings_of atoms (binding_tables bindings.now.made.now bindings.now.values.now) k))
             ≤ length self.old.output.now) }
@@ -109,7 +109,7 @@ impl<'a> Writer<'a> {
             self.new.at self.new.output.now }
     {
         for i in 0..k {
-            let x = bindings.variable_at(i);
+            let x = bindings::variable_at(bindings.made, i);
             self.binding(bindings, x, atoms);
         }
     }
@@ -180,7 +180,7 @@ fn count_facts(asked: &Asked, bound: VariableSet, atoms: usize, variables: usize
 // answer's length; or refuses, with the length wanted, and the output stays as it was.
 pub fn write(
     output: &mut [u8],
-    bindings: &Bindings,
+    bindings: &Shown,
     asked: &Asked,
     steps: u32,
     k: usize,

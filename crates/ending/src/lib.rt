@@ -16,7 +16,7 @@ ghost use Rattle.ending.specs.Ended.{Small, Resolves, Ended, SomeEnded, Conclude
 
 use crate::assumed::all_assumed;
 use crate::words::words;
-use bindings::Bindings;
+use bindings::Shown;
 use demands::Asked;
 use fresh::Marks;
 use numbers::{Judged, Reason, Solved, refuse};
@@ -28,7 +28,7 @@ use sets::VariableSet;
 fn resolve(
     input: &Input,
     c: Counts,
-    bindings: &Bindings,
+    bindings: &Shown,
     asked: &mut Asked,
     marks: &mut Marks,
     bound: VariableSet,
@@ -59,7 +59,7 @@ pub fn conclude(
     c: Counts,
     output: &mut [u8],
     assumed: &Assumed,
-    bindings: &Bindings,
+    bindings: &Shown,
     asked: &mut Asked,
     marks: &mut Marks,
     bound: VariableSet,
@@ -93,7 +93,7 @@ pub fn judged(
     input: &Input,
     c: Counts,
     assumed: &Assumed,
-    bindings: &Bindings,
+    bindings: &Shown,
     asked: &mut Asked,
     marks: &mut Marks,
     bound: VariableSet,

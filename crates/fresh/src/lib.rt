@@ -16,7 +16,7 @@ ghost use Rattle.fresh.specs.Resolved.{PairsResolved};
 ghost use Rattle.fresh.specs.Marks.{seen_in, done_in, Demanded, SoFar, Begun, LookedThrough, value_at, Bound, atom_of, new_at, Waits, NextBetween};
 ghost use Rattle.fresh.specs.Marks.{LastBelow, Next, Passed, clash_at, Clashed};
 
-use bindings::Bindings;
+use bindings::Shown;
 use demands::{Asked, Sets};
 use names::{Atom, MOST_NODES, NodeId, Variable};
 use problem::{Form, Input};
@@ -36,14 +36,14 @@ const DONE: usize = 1;
 
 // The atoms that a variable's value sends into the set from outside: its images are read where they lie.
 // Where a number is cast to a smaller type here and below it is less than that type holds: `try_from` would bring a branch that is never taken.
-fn through_images(bindings: &Bindings, n: usize, x: Variable, atoms: AtomSet) -> AtomSet
+fn through_images(bindings: &Shown, n: usize, x: Variable, atoms: AtomSet) -> AtomSet
     requires { (n ≤ 32) × (x.0 < 64) }
     ensures { result.0 ≡ sent_into n (image (images_of n bindings.now.values.now x.0)) atoms.0 }
 {
     let mut r = AtomSet::empty();
     for i in 0..n {
         let a = Atom(i as u8);
-        if atoms.has(bindings.image_of(n, x, a)) {
+        if atoms.has(bindings::image_of(bindings.values, n, x, a)) {
             r = r.with(a);
         }
     }
@@ -128,7 +128,7 @@ fn next(
 // Passes a bound variable's new atoms on to its value.
 fn pass_on(
     input: &Input,
-    bindings: &Bindings,
+    bindings: &Shown,
     asked: &mut Asked,
     marks: &mut Marks,
     atoms: usize,
@@ -144,7 +144,7 @@ fn pass_on(
     let new = new_at(asked, marks, x);
     add_atoms(&mut marks[DONE], usize::from(x.0), new);
     let sent = through_images(bindings, atoms, x, new);
-    let node = bindings.node_of(x);
+    let node = bindings::node_of(bindings.made, x);
     visit(
         input,
         sent,
@@ -158,7 +158,7 @@ fn pass_on(
 fn close(
     input: &Input,
     bound: VariableSet,
-    bindings: &Bindings,
+    bindings: &Shown,
     asked: &mut Asked,
     marks: &mut Marks,
     atoms: usize,
@@ -262,7 +262,7 @@ fn clashing(input: &Input, seen: &Sets, nodes: usize) -> bool
 pub fn resolve(
     input: &Input,
     bound: VariableSet,
-    bindings: &Bindings,
+    bindings: &Shown,
     asked: &mut Asked,
     marks: &mut Marks,
     nodes: usize,

@@ -7,7 +7,7 @@ ghost use Rattle.side.specs.Side.{side_at, SideResolved};
 ghost use Rattle.perform.specs.Performed.{tables_in, SameTables, Performed};
 ghost use Rattle.machine.specs.Step.{Present, step_here};
 
-use bindings::Bindings;
+use bindings::Shown;
 use names::NodeId;
 use numbers::Reason;
 use occurs::Known;
@@ -24,7 +24,7 @@ use variables::NodeVariables;
 #[inline(always)]
 fn resolved(
     input: &Input,
-    bindings: &Bindings,
+    bindings: &Shown,
     atoms: usize,
     state: State,
     images: Permutation,
@@ -68,11 +68,12 @@ pub fn step(
     ensures performed { Performed input.now.bytes.now atoms e.number (tables_in work.old) state (tables_in work.new) result
         (step_here input.now.bytes.now atoms protected.0 (tables_in work.old).bindings state e) }
 {
-    let left = resolved(input, &work.bindings, atoms, state, e.left, e.left_node);
-    let right = resolved(input, &work.bindings, atoms, state, e.right, e.right_node);
+    let bindings = work.bindings.shown();
+    let left = resolved(input, &bindings, atoms, state, e.left, e.left_node);
+    let right = resolved(input, &bindings, atoms, state, e.right, e.right_node);
     let known = Known {
         node_variables,
-        bindings: &work.bindings,
+        made: bindings.made,
         bound: state.bound,
     };
     let act = rule::decide(&known, atoms, protected, left, right);

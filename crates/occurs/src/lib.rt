@@ -6,7 +6,7 @@ ghost use Rattle.std.specs.Prelude.{◌<◌, get_or};
 ghost use Rattle.bindings.specs.Bindings.{NodesThere};
 ghost use Rattle.occurs.specs.Reached.{Closure, OccursAnswered};
 
-use bindings::Bindings;
+use bindings::Made;
 use names::{NodeId, Variable};
 use sets::VariableSet;
 use variables::NodeVariables;
@@ -16,16 +16,16 @@ use variables::NodeVariables;
 #[derive(Clone, Copy)]
 pub struct Known<'a> {
     pub node_variables: &'a NodeVariables,
-    pub bindings: &'a Bindings<'a>,
+    pub made: &'a Made,
     pub bound: VariableSet,
-    ghost there: { NodesThere 512 bindings.now.made.now bound.0 },
+    ghost there: { NodesThere 512 made.now bound.0 },
 }
 
 impl<'a> Known<'a> {
     // The variables that are reached from a node through bindings: each bound variable is looked through at most once.
     fn reaches(&self, from: NodeId) -> VariableSet
         requires { from.0 < 512 }
-        ensures { Closure self.now.bound.0 self.now.bindings.now.made.now self.now.node_variables.now
+        ensures { Closure self.now.bound.0 self.now.made.now self.now.node_variables.now
             (get_or self.now.node_variables.now from.0 0) result.0 }
     {
         let mut reach = variables::of_node(self.node_variables, from);
@@ -37,7 +37,7 @@ impl<'a> Known<'a> {
             }
             let x = unseen.lowest();
             waiting = waiting.without(x);
-            let value = self.bindings.node_of(x);
+            let value = bindings::node_of(self.made, x);
             let found = variables::of_node(self.node_variables, value);
             reach = reach.union(found);
         }
@@ -46,7 +46,7 @@ impl<'a> Known<'a> {
     // Whether a variable occurs in a node, looked at through all bindings.
     pub fn occurs(&self, x: Variable, node: NodeId) -> bool
         requires { node.0 < 512 }
-        ensures { OccursAnswered self.now.bound.0 self.now.bindings.now.made.now self.now.node_variables.now node.0 x.0 result }
+        ensures { OccursAnswered self.now.bound.0 self.now.made.now self.now.node_variables.now node.0 x.0 result }
     {
         self.reaches(node).has(x)
     }

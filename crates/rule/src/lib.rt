@@ -100,7 +100,7 @@ fn compounds(left: Side, right: Side, atoms: usize) -> Act
 fn unless_inside(known: &Known, x: Variable, other: NodeId, act: Act) -> Act
     requires { other.0 < 512 }
     ensures { (o : Bool)
-        → OccursTold known.now.bound.0 known.now.bindings.now.made.now known.now.node_variables.now other.0 x.0 o
+        → OccursTold known.now.bound.0 known.now.made.now known.now.node_variables.now other.0 x.0 o
         → result ≡ unless_inside o act }
 {
     if known.occurs(x, other) {
@@ -113,7 +113,7 @@ fn unless_inside(known: &Known, x: Variable, other: NodeId, act: Act) -> Act
 fn one_variable(known: &Known, protected: VariableSet, x: Variable, other: NodeId, act: Act) -> Act
     requires { other.0 < 512 }
     ensures { (o : Bool)
-        → OccursTold known.now.bound.0 known.now.bindings.now.made.now known.now.node_variables.now other.0 x.0 o
+        → OccursTold known.now.bound.0 known.now.made.now known.now.node_variables.now other.0 x.0 o
         → result ≡ unless_protected (member protected.0 x.0) o act }
 {
     if protected.has(x) {
@@ -133,8 +133,8 @@ fn two_variables(
 ) -> Act
     requires { (left.0 < 512) × (right.0 < 512) }
     ensures { (i j : Bool)
-        → OccursTold known.now.bound.0 known.now.bindings.now.made.now known.now.node_variables.now left.0 y.0 i
-        → OccursTold known.now.bound.0 known.now.bindings.now.made.now known.now.node_variables.now right.0 x.0 j
+        → OccursTold known.now.bound.0 known.now.made.now known.now.node_variables.now left.0 y.0 i
+        → OccursTold known.now.bound.0 known.now.made.now known.now.node_variables.now right.0 x.0 j
         → result ≡ either_act (member protected.0) x y i j }
 {
     if x == y {
@@ -149,7 +149,7 @@ fn two_variables(
 // "Then one step, the first that fits".
 pub fn decide(known: &Known, atoms: usize, protected: VariableSet, left: Side, right: Side) -> Act
     requires { (atoms ≤ 32) × (left.node.0 < 512) × (right.node.0 < 512) }
-    ensures { Decided atoms (member protected.0) known.now.bound.0 known.now.bindings.now.made.now known.now.node_variables.now left right result }
+    ensures { Decided atoms (member protected.0) known.now.bound.0 known.now.made.now known.now.node_variables.now left right result }
 {
     match (left.form, right.form) {
         (Form::Suspension(x), Form::Suspension(y)) => two_variables(

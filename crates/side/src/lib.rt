@@ -8,7 +8,7 @@ ghost use Rattle.problem.specs.Look.{NodeStands, form_now, form_told, Suspended,
 ghost use Rattle.bindings.specs.Bindings.{binding_tables, NodesThere};
 ghost use Rattle.side.specs.Side.{is_bound, Valued, SideResolved, side_at, whole_of};
 
-use bindings::{Bindings, Value};
+use bindings::{Shown, Value};
 use names::NodeId;
 use permutation::Permutation;
 use problem::{Form, Input};
@@ -50,7 +50,7 @@ pub fn whole(input: &Input, atoms: usize, images: Permutation, node: NodeId) -> 
 }
 
 // What a form is replaced by: the value of a bound variable.
-fn value_of(bindings: &Bindings, bound: VariableSet, form: Form) -> Option<Value>
+fn value_of(bindings: &Shown, bound: VariableSet, form: Form) -> Option<Value>
     ensures { Valued (binding_tables bindings.now.made.now bindings.now.values.now) bound.0 form result }
 {
     match form {
@@ -73,7 +73,7 @@ pub fn is_bound(form: Form, bound: VariableSet) -> bool
 // binding.
 pub fn resolve(
     input: &Input,
-    bindings: &Bindings,
+    bindings: &Shown,
     atoms: usize,
     bound: VariableSet,
     count: usize,
