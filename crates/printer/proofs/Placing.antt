@@ -7,7 +7,7 @@ use mathlib.Core.Path.{◌≡◌, sym, ap, ◌∙◌}
 use mathlib.Core.List.{List, [], ◌∷◌, ◌++◌, append-nil}
 use mathlib.Core.Logic.{by_cases}
 use borrow.Rule.Slice.PartMut.{put_mid}
-use lib.ListN.{length, set, take, drop, length-append, take-append-drop, drop_of_length-le}
+use lib.ListN.{length, take, drop, length-append, take-append-drop, drop_of_length-le}
 use lib.Seq.{take-nil, drop-nil, take_all, length-take-le}
 use Rattle.std.proofs.lemmas.Slice.{put_mid-paste}
 use Rattle.printer.specs.Placed.{pasted, reached, Placed}
@@ -79,15 +79,6 @@ placed_nothing d at h = placed (rw (add-zero at) (sym (min-eq_right h))) (sym (p
 pub placed_past : (d : List ℕ) (at : ℕ) (s : List ℕ) → length d ≤ at → Placed d at s (length d) d
 unfolding reached
 placed_past d at s h = placed (omega arith) (sym (pasted_past d at s h))
-
-pub placed_byte : (d : List ℕ) (at b : ℕ) → at < length d → Placed d at (b ∷ []) (at + 1) (set d at b)
-unfolding reached
-placed_byte d at b h = placed (omega arith) (one d at h)
-  where
-    one : (d : List ℕ) (at : ℕ) → at < length d → set d at b ≡ pasted d at (b ∷ [])
-    one [] at h = absurd (omega arith)
-    one (x ∷ d) zero h = rw (pasted_first x d b [], pasted_nothing d zero)
-    one (x ∷ d) (suc at) h = rw (pasted_before x d at (b ∷ [])) (ap (◌∷◌ x) (one d at (omega arith)))
 
 -- As much as fits, in one piece.
 pub placed_part : (d s m : List ℕ) (at k j : ℕ) → at < length d → k ≡ min (length s) (length d - at) → m ≡ take k s → j ≡ k

@@ -2,7 +2,7 @@
 // for room; four bytes of room for each byte of an answer are always enough.
 #![tactic(auto)]
 
-ghost use Rattle.std.specs.Prelude.{◌≡◌, true, false, IfSome, None, [], ◌∷◌, length};
+ghost use Rattle.std.specs.Prelude.{◌≡◌, true, false, IfSome, None, length};
 ghost use Rattle.printer.specs.Placed.{Placed};
 ghost use Rattle.layout.specs.Parts.{part_fits};
 ghost use Rattle.printer.specs.Lines.{decimal, spaced, images, accepted_line, refused_line, bind_line, fresh_line, field_line};
@@ -24,17 +24,6 @@ pub fn put(out: &mut [u8], at: usize, s: &[u8]) -> usize
     let fits = s.len().min(out.len() - at);
     out[at..at + fits].copy_from_slice(&s[..fits]);
     at + fits
-}
-
-// One byte, where it fits. Most of what is written is a digit or a space, and to copy a text of one byte takes several times as long as to write it.
-fn put_byte(out: &mut [u8], at: usize, b: u8) -> usize
-    ensures { Placed out.old at (b ∷ []) result out.new }
-{
-    if out.len() <= at {
-        return out.len();
-    }
-    out[at] = b;
-    at + 1
 }
 
 // What a field of an answer says, told by its tag and by how long its body is.
@@ -75,13 +64,6 @@ impl<'a> Lines<'a> {
         self.at = put(self.out, self.at, s);
     }
 
-    fn byte(&mut self, b: u8)
-        ensures same { self.new.out.ghost_name ≡ self.old.out.ghost_name }
-        ensures placed { Placed self.old.out.now self.old.at (b ∷ []) self.new.at self.new.out.now }
-    {
-        self.at = put_byte(self.out, self.at, b);
-    }
-
     // By hand, and not by Display: `write!` promises its text only where it came back Ok, and no clause of it says that it does. What a line
     // puts here cannot fail. A digit is cast: try_from would bring a branch that is never taken.
     fn decimal(&mut self, x: usize)
@@ -91,14 +73,14 @@ impl<'a> Lines<'a> {
         if 10 <= x {
             self.decimal(x / 10);
         }
-        self.byte(b'0' + (x % 10) as u8);
+        self.put(&[b'0' + (x % 10) as u8]);
     }
 
     fn spaced(&mut self, x: usize)
         ensures same { self.new.out.ghost_name ≡ self.old.out.ghost_name }
         ensures placed { Placed self.old.out.now self.old.at (spaced x) self.new.at self.new.out.now }
     {
-        self.byte(b' ');
+        self.put(b" ");
         self.decimal(x);
     }
 

@@ -7,6 +7,6 @@ pub returns-clause-placed : goal.returns-clause-placed
 returns-clause-placed t c =
     elim c.if-x-ge10.branch [
       | goal.then-x-ge10 w ↦
-          rw (decimal_more c.args.x w.if-x-ge10.true) (w.decimal.ensures.placed then (rw w.self-is at c.byte.ensures.placed))
-      | goal.else-x-ge10 w ↦ rw (decimal_small c.args.x w.if-x-ge10.false) (rw w.self-is at c.byte.ensures.placed)
+          rw (decimal_more c.args.x w.if-x-ge10.true) (w.decimal.ensures.placed then (rw w.self-is at c.put.ensures.placed))
+      | goal.else-x-ge10 w ↦ rw (decimal_small c.args.x w.if-x-ge10.false) (rw w.self-is at c.put.ensures.placed)
     ]

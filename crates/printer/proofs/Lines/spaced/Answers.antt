@@ -5,4 +5,4 @@ use Rattle.printer.proofs.Lines.spaced.Goals as goal
 
 pub returns-clause-placed : goal.returns-clause-placed
 unfolding spaced
-returns-clause-placed c = c.byte.ensures.placed then c.decimal.ensures.placed
+returns-clause-placed c = c.put.ensures.placed then c.decimal.ensures.placed
