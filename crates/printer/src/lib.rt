@@ -125,7 +125,7 @@ impl<'a> Lines<'a> {
         self.decimal(usize::from(variable.0));
         self.spaced(usize::from(node.0));
         self.images(images);
-        self.put(b"\n");
+        self.put(b"\n"); // with no images too
     }
 
     fn fresh(&mut self, atom: Atom, variable: Variable)

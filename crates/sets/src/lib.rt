@@ -87,7 +87,7 @@ impl Word for u64 {
     const WIDTH: u8 = 64;
 
     fn wide(self) -> u64 {
-        self
+        self // the widest word as it is
     }
 
     fn narrow(wide: u64) -> u64 {

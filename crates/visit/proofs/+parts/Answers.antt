@@ -46,8 +46,9 @@ returns-then-eq t c = λ i.
     visited_twins here (told i c.in-Pair.ensures) (eqb-true _ _ (sym c.eq.ensures ∙ c.if-eq.true))
     (c.parts-then-eq.ensures (part i both.1))
 
+-- Of either part, so that a left part that is not asked is missed where the two visits are put together.
 pub parts-requires-then-lt : goal.parts-requires-then-lt
-parts-requires-then-lt t c = let both = named c.requires c.in-Pair.ensures in (omega (arith, both), part c.requires both.0)
+parts-requires-then-lt t c = let both = named c.requires c.in-Pair.ensures in (omega (arith, both), part c.requires (omega (arith, both)))
 
 pub parts-requires-then-lt-2 : goal.parts-requires-then-lt-2
 parts-requires-then-lt-2 t c = let both = named c.requires c.in-Pair.ensures in (omega (arith, both), part c.requires both.1)
@@ -56,7 +57,7 @@ pub returns-then-lt : goal.returns-then-lt
 returns-then-lt t c = λ i.
     let here = noted i (omega (arith, small_node i)) c.from-n.ensures c.atoms_at.ensures c.minus-new.ensures c.add_atoms.ensures in
     let both = named i c.in-Pair.ensures in
-    visited_pair here (told i c.in-Pair.ensures) (c.parts-then-lt.ensures (part i both.0)) (c.parts-then-lt-2.ensures (part i both.1))
+    visited_pair here (told i c.in-Pair.ensures) (c.parts-then-lt.ensures (part i (omega (arith, both)))) (c.parts-then-lt-2.ensures (part i both.1))
 
 pub parts-requires-in-Pair : goal.parts-requires-in-Pair
 parts-requires-in-Pair t c = let both = named c.requires c.in-Pair.ensures in (omega (arith, both), part c.requires both.1)
