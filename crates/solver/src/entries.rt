@@ -2,6 +2,7 @@
 ghost use Rattle.std.specs.Prelude.{◌≡◌};
 ghost use Rattle.run.specs.Answer as run;
 ghost use Rattle.numbers.specs.Numbers.{result_of, judgement_given};
+ghost use Rattle.solver.specs.Lent.{SameLent};
 
 use crate::tables::{self, Bindings, Demands, Stack, Tables, Work};
 use numbers::{Judged, Solved};
@@ -11,7 +12,8 @@ use verdicts::solving::solve_read;
 
 // The solver, over lent work tables with any content. The judge reads alike: a function for that would be lent three tables to save a literal alone.
 pub fn solve_with(input: &[u8], output: &mut [u8], tables: &mut Tables) -> Solved
-    ensures { result_of result output.new ≡ run.solve input.now output.old }
+    ensures same { SameLent tables.old tables.new }
+    ensures solved { result_of result output.new ≡ run.solve input.now output.old }
 {
     let c = reader::read(
         input,
@@ -36,7 +38,8 @@ pub fn solve_with(input: &[u8], output: &mut [u8], tables: &mut Tables) -> Solve
 
 // The judge, over lent work tables with any content.
 pub fn judge_with(input: &[u8], tables: &mut Tables) -> Judged
-    ensures { judgement_given result ≡ run.judge input.now }
+    ensures same { SameLent tables.old tables.new }
+    ensures judged { judgement_given result ≡ run.judge input.now }
 {
     let c = reader::read(
         input,

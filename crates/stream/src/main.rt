@@ -5,6 +5,7 @@
 
 ghost use Rattle.std.specs.Prelude.{◌+◌, ◌*◌, ◌≤◌, length, take};
 ghost use Rattle.std.specs.Io.KnownBytes.{Appends};
+ghost use Rattle.solver.specs.Lent.{SameLent};
 ghost use Rattle.stream.specs.Turned.{taken_by, text_of, Turned};
 ghost use Rattle.stream.specs.Written.{Wrote};
 
@@ -33,6 +34,7 @@ fn turn<R: Read, W: Write, C: Clock>(
 ) -> Result<Turn, Stop>
     requires in_bounds { 4 ≤ length input.old }
     requires output_in_bounds { 4 * length output.old + 67 ≤ length out.old }
+    ensures same { SameLent tables.old tables.new }
     ensures turned { Turned input.new output.old out.new result }
     ensures written { Appends (W.contents ports.old.to) (W.contents ports.new.to) (take (taken_by result) (text_of input.new output.old result)) }
 {
@@ -55,7 +57,8 @@ fn all<R: Read, W: Write, C: Clock>(
 ) -> Result<(), Ending>
     requires in_bounds { 4 ≤ length input.old }
     requires output_in_bounds { 4 * length output.old + 67 ≤ length out.old }
-    ensures { Wrote (W.contents ports.old.to) (W.contents ports.new.to) result }
+    ensures same { SameLent tables.old tables.new }
+    ensures wrote { Wrote (W.contents ports.old.to) (W.contents ports.new.to) result }
 {
     for count in 0..usize::MAX {
         let turned = turn(ports, input, output, out, tables);

@@ -6,6 +6,7 @@ ghost use Rattle.variables.specs.Variables.{VariablesKept};
 ghost use Rattle.run.specs.Answer.{judged_run};
 ghost use Rattle.run.specs.Answer as run;
 ghost use Rattle.numbers.specs.Numbers.{judgement_given};
+ghost use Rattle.perform.specs.Performed.{SameTables};
 
 use crate::running::run_read;
 use fresh::Marks;
@@ -26,7 +27,8 @@ pub fn judge_read(
 ) -> Judged
     requires { ReadInto input.now.bytes.now input.now.places.now assumed.now c
         × VariablesKept (problem_of input.now.bytes.now).nodes node_variables.now }
-    ensures { judgement_given result
+    ensures same { SameTables work.old work.new }
+    ensures judged { judgement_given result
         ≡ run.judgement_of (problem_of input.now.bytes.now) (judged_run (problem_of input.now.bytes.now)) }
 {
     let protected = VariableSet::below(64);
@@ -34,7 +36,8 @@ pub fn judge_read(
     match run_read(input, c, node_variables, work, protected, none, 0) {
         Ok(ran) => {
             let asked = &mut *work.demands.asked;
-            ending::judged(input, c, assumed, &work.bindings, asked, marks, ran.bound)
+            let bindings = work.bindings.shown();
+            ending::judged(input, c, assumed, &bindings, asked, marks, ran.bound)
         }
         Err(refusal) if refusal.reason == Reason::Limit => Err(refusal),
         Err(_) => Err(refuse(Reason::DoesNotHold, 0)),

@@ -6,6 +6,7 @@ ghost use Rattle.variables.specs.Variables.{VariablesKept};
 ghost use Rattle.run.specs.Run.{run_of};
 ghost use Rattle.run.specs.Answer.{verdict_of, given};
 ghost use Rattle.numbers.specs.Numbers.{result_of};
+ghost use Rattle.perform.specs.Performed.{SameTables};
 
 use crate::running::run_read;
 use fresh::Marks;
@@ -27,22 +28,15 @@ pub fn solve_read(
 ) -> Solved
     requires { ReadInto input.now.bytes.now input.now.places.now assumed.now c
         × VariablesKept (problem_of input.now.bytes.now).nodes node_variables.now }
-    ensures { result_of result output.new
+    ensures same { SameTables work.old work.new }
+    ensures solved { result_of result output.new
         ≡ given (verdict_of (problem_of input.now.bytes.now) (run_of (problem_of input.now.bytes.now))) output.old }
 {
     let none = VariableSet::empty();
     let ran = run_read(input, c, node_variables, work, c.protected, none, 0)?;
     let asked = &mut *work.demands.asked;
+    let bindings = work.bindings.shown();
     ending::conclude(
-        input,
-        c,
-        output,
-        assumed,
-        &work.bindings,
-        asked,
-        marks,
-        ran.bound,
-        ran.count,
-        ran.steps,
+        input, c, output, assumed, &bindings, asked, marks, ran.bound, ran.count, ran.steps,
     )
 }

@@ -11,7 +11,7 @@ pub returns-clause-turned : goal.returns-clause-turned
 returns-clause-turned g c =
     let problem = take c.in_ok-frame.frame.size c.next.new.input in
     let text =
-    block_printed problem c.args.output.now _ _ c.solve_with.ensures c.judge_with.ensures c.from-solved.ensures c.from-judged.ensures
+    block_printed problem c.args.output.now _ _ c.solve_with.ensures.solved c.judge_with.ensures.judged c.from-solved.ensures c.from-judged.ensures
     c.lines-end.ensures.out_after in
     record {
       told = subst (Told _) c.in_ok-frame.was c.next.ensures;
@@ -22,7 +22,7 @@ pub returns-clause-written : goal.returns-clause-written
 returns-clause-written g c =
     let problem = take c.in_ok-frame.frame.size c.next.new.input in
     let text =
-    block_printed problem c.args.output.now _ _ c.solve_with.ensures c.judge_with.ensures c.from-solved.ensures c.from-judged.ensures
+    block_printed problem c.args.output.now _ _ c.solve_with.ensures.solved c.judge_with.ensures.judged c.from-solved.ensures c.from-judged.ensures
     c.lines-end.ensures.out_after in
     subst (λ t. Appends (g.W.Write.contents c.args.ports.now.to) (g.W.Write.contents c.put-taken.new.writer) (take (taken_of c.put-taken.result) t)) text
     c.put-taken.ensures.bytes

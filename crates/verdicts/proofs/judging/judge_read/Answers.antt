@@ -23,22 +23,23 @@ judges p readable protected e t =
 pub run_read-requires-clause-founded : goal.run_read-requires-clause-founded
 run_read-requires-clause-founded c = founded_none _ _ c.empty-none.ensures
 
-pub returns-in-Ok : goal.returns-in-Ok
-returns-in-Ok c =
+pub returns-in-Ok-clause-judged : goal.returns-in-Ok-clause-judged
+returns-in-Ok-clause-judged c =
     let p : Problem = problem_of c.args.input.now.bytes.now in
     let run = judges p c.requires.0.standing.readable _ c.below-protected.ensures _ in
     let (ended, ends) = c.in-Ok.ensures.ended.accepted _ refl in
-    judged_finished p (sym ends ∙ run) (c.judged.ensures _ _ ended)
+    let (made, values) = c.shown-bindings.ensures in
+    judged_finished p (sym ends ∙ run) ((rw (made, values) at c.judged.ensures) _ _ ended)
 
-pub returns-in-Err : goal.returns-in-Err
-returns-in-Err c =
+pub returns-in-Err-clause-judged : goal.returns-in-Err-clause-judged
+returns-in-Err-clause-judged c =
     let p : Problem = problem_of c.args.input.now.bytes.now in
     let run = judges p c.requires.0.standing.readable _ c.below-protected.ensures _ in
     let is_limit = same_true the_type (record {}) _ _ (sym c.eq.ensures ∙ c.if-eq.true) in
     judged_limit p (judged_run p) (ap end_given (sym run) ∙ c.in-Err.ensures.ended.refused _ refl) is_limit
 
-pub returns-in-Err-2 : goal.returns-in-Err-2
-returns-in-Err-2 c =
+pub returns-in-Err-2-clause-judged : goal.returns-in-Err-2-clause-judged
+returns-in-Err-2-clause-judged c =
     let p : Problem = problem_of c.args.input.now.bytes.now in
     let run = judges p c.requires.0.standing.readable _ c.below-protected.ensures _ in
     let not_limit = same_false the_type _ _ (sym c.eq.ensures ∙ c.if-eq.false) in
