@@ -6,6 +6,7 @@ use Rattle.field.specs.Front.{front_of}
 use Rattle.field.specs.declared.AtFront.TheVariants.{Whole, Cut, End}
 use Rattle.field.proofs.Told.{at_end, at_cut, at_whole}
 use Rattle.numbers.specs.declared.Reason.{Reason}
+use Rattle.numbers.specs.Numbers.{given_of}
 use Rattle.problem.specs.Reader.{Sizes}
 use Rattle.says.specs.Told.{said_of, fault_by}
 use Rattle.says.specs.declared.Said.{Said}
@@ -38,6 +39,6 @@ returns-in-Ok c =
 
 pub returns-in-Err : goal.returns-in-Err
 returns-in-Err c =
-    rw c.refuse-in-Err.ensures
-    (ap (λ k. record { number = fault_by k; place = c.args.rest.now.place }) (sym c.in-Err.is)
-    ∙ is_whole _ _ _ c.in-Whole.tag c.in-Whole.n _ (sym c.in-Whole.ensures) (rw c.body.ensures at c.field_says.ensures))
+    ap given_of c.refuse-in-Err.ensures
+    ∙ ap (λ k. record { number = fault_by k; place = c.args.rest.now.place }) (sym c.in-Err.is)
+    ∙ is_whole _ _ _ c.in-Whole.tag c.in-Whole.n _ (sym c.in-Whole.ensures) (rw c.body.ensures at c.field_says.ensures)
