@@ -1,5 +1,6 @@
 -- The reader's way through the fields: what stays true from field to field. Definitions alone.
 use Rattle.std.specs.Prelude.{ℕ, ◌≤◌, ◌≡◌, None, List, length, drop}
+use Rattle.field.specs.Word.{eight}
 use Rattle.problem.specs.Problem.{Problem}
 use Rattle.problem.specs.Reader.{base_tags}
 use Rattle.problem.specs.Readable.{Readable}
@@ -32,9 +33,9 @@ pub record NodesPassed (s : List ℕ) (o : ℕ) (c : Counts) (places variables :
 
 -- The nodes from offset o on, as far as they come without a fault.
 pub record NodesRead (s : List ℕ) (o : ℕ) (c : Counts) (places variables : List ℕ) (r : Reached) (places' variables' : List ℕ) : Type 0 where
-  pub passed : NodesPassed s o c places variables r.rest.place r.nodes places' variables'
-  pub stopped : node_size (sized_by (with_nodes c r.nodes)) r.rest.bytes.now ≡ None
-  pub left : r.rest.bytes.now ≡ drop r.rest.place s
+  pub passed : NodesPassed s o c places variables r.place r.nodes places' variables'
+  pub stopped : node_size (sized_by (with_nodes c r.nodes)) (drop r.place s) ≡ None
+  pub word : r.word ≡ eight (drop r.place s)
 
 -- The input is no longer than an input may be, and the offset is in it.
 pub record NodesAsked (s : List ℕ) (o : ℕ) : Type 0 where

@@ -184,7 +184,7 @@ fn fields(
     let mut at: usize = 9;
     loop {
         let reached = nodes(s, at, c, places, node_variables);
-        let rest = reached.rest;
+        let rest = Rest::known(s, reached.place, reached.word);
         c.nodes = reached.nodes;
         if rest.bytes.is_empty() {
             return Ok(c);

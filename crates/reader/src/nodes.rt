@@ -19,11 +19,13 @@ use variables::NodeVariables;
 // The bound in the type of the count: where the count is widened for it, the compiler keeps it twice, which costs two instructions a node.
 const NODES: u16 = MOST_NODES as u16;
 
-// Where the first field stands that is not such a node, and how many nodes there are then. Not compared, as Rest.
-#[derive(Clone, Copy)]
-pub struct Reached<'a> {
-    pub rest: Rest<'a>,
+// Where the first field stands that is not such a node, how many nodes there are then, and that field's first eight bytes. The rest itself is no part of it: it
+// would hold the loan of the input for as long as one looks at this.
+#[derive(Clone, Copy, PartialEq, Eq)]
+pub struct Reached {
+    pub place: usize,
     pub nodes: u16,
+    pub word: u64,
 }
 
 // Node n is put down: what is kept of its field, and its variables. The two tables go beside each other: in one struct of references each function here
@@ -255,13 +257,13 @@ fn node_here(
 
 // The slice from each field's end is passed on to the reading of its first bytes. It moves on by each field's size, up to the first that is no node, so
 // no range goes over it. The two tables stay beside each other, as at put.
-pub fn nodes<'a>(
-    s: &'a [u8],
+pub fn nodes(
+    s: &[u8],
     from: usize,
     c: Counts,
     places: &mut Places,
     node_variables: &mut NodeVariables,
-) -> Reached<'a>
+) -> Reached
     requires { NodesAsked s.now from }
     ensures { NodesRead s.now from c places.old node_variables.old result
         places.new node_variables.new }
@@ -272,8 +274,9 @@ pub fn nodes<'a>(
         let rest = Rest::at(s, at);
         let Some(size) = node_here(&rest, c, places, node_variables) else {
             return Reached {
-                rest,
+                place: at,
                 nodes: c.nodes,
+                word: rest.word,
             };
         };
         at += size;

@@ -29,4 +29,16 @@ impl<'a> Rest<'a> {
             word: word::eight(bytes),
         }
     }
+
+    // The same, where its first eight bytes are known.
+    pub fn known(input: &'a [u8], place: usize, word: u64) -> Rest<'a>
+        requires { (place ≤ length input.now) × (length input.now ≤ 65535) × (word ≡ eight (drop place input.now)) }
+        ensures { (result.bytes.now ≡ drop place input.now) × (result.place ≡ place) × (result.word ≡ word) }
+    {
+        Rest {
+            bytes: &input[place..],
+            place,
+            word,
+        }
+    }
 }

@@ -1,5 +1,6 @@
 -- One node more, or the place where none stands.
-use Rattle.std.proofs.Common.{◌+◌, ap, arith}
+use Rattle.std.proofs.Common.{◌+◌, ap, ◌∙◌, arith}
+use Rattle.field.specs.Word.{eight}
 use Rattle.problem.specs.declared.Counts.{Counts}
 use Rattle.reader.specs.Found.{with_nodes}
 use Rattle.reader.proofs.Passing.{node_ends, node_few, one_passed, same_passed, no_node_here}
@@ -9,9 +10,9 @@ pub returns-in_default : goal.returns-in_default
 returns-in_default c =
     let k = rw (c.at-rest.ensures.0, c.at-rest.ensures.1, c.loop-size.invariant.counts) at c.node_here.ensures in
     record {
-      passed = rw c.at-rest.ensures.1 (same_passed (λ i. (c.type_inv.s i).fits) c.loop-size.invariant.passed k c.in_default.is);
-      stopped = rw c.at-rest.ensures.0 (no_node_here (λ i. (c.type_inv.s i).fits) c.loop-size.invariant.passed k c.in_default.is);
-      left = rw c.at-rest.ensures.1 c.at-rest.ensures.0;
+      passed = same_passed (λ i. (c.type_inv.s i).fits) c.loop-size.invariant.passed k c.in_default.is;
+      stopped = no_node_here (λ i. (c.type_inv.s i).fits) c.loop-size.invariant.passed k c.in_default.is;
+      word = c.at-rest.result.first_eight ∙ ap eight c.at-rest.ensures.0;
     }
 
 pub overflow_add-at : goal.overflow_add-at
