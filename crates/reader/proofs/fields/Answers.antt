@@ -23,7 +23,8 @@ counted-c-requires c =
 pub overflow_add-at : goal.overflow_add-at
 overflow_add-at c =
     let w = c.nodes-reached.ensures.passed.onward _ _ _ c.loop-rest.invariant in
-    omega (arith, other_ends (λ i. (c.type_inv.s i).fits) w (rw (c.known-rest.ensures.0, c.known-rest.ensures.1) at c.other.ensures) c.in-Some.is, w.short, c.known-rest.ensures.1)
+    let h = other_ends (λ i. (c.type_inv.s i).fits) w (rw (c.known-rest.ensures.0, c.known-rest.ensures.1) at c.other.ensures) c.in-Some.is in
+    omega (arith, h, w.short, c.known-rest.ensures.1)
 
 pub loop-rest-smaller : goal.loop-rest-smaller
 loop-rest-smaller c =
