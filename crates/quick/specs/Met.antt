@@ -52,8 +52,8 @@ meet_tables images asked firsts = record { images = images; sheet = sheet asked 
 abbrev pub met_in : Stack → Demands → MeetTables
 met_in s d = meet_tables s.images.now d.asked.now d.firsts.now
 
--- The tables are those still that were lent.
-pub record SameLent (stack stack_after : Stack) (demands demands_after : Demands) : Type 0 where
+-- The tables that such steps change are those still that were lent.
+pub record SameInPlace (stack stack_after : Stack) (demands demands_after : Demands) : Type 0 where
   pub heads : stack_after.heads.ghost_name ≡ stack.heads.ghost_name
   pub images : stack_after.images.ghost_name ≡ stack.images.ghost_name
   pub asked : demands_after.asked.ghost_name ≡ demands.asked.ghost_name

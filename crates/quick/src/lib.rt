@@ -13,7 +13,7 @@ ghost use Rattle.stack.specs.Stack.{most_waiting};
 ghost use Rattle.stack.specs.InPlace.{left_at, right_at, Renewed};
 ghost use Rattle.bindings.specs.Bindings.{binding_tables};
 ghost use Rattle.quick.specs.Going.{tables_lent, SomeGoing, CarriedOn};
-ghost use Rattle.quick.specs.Met.{side_under, LeadsTo, Facing, met_in, SameLent, Taken, Meets};
+ghost use Rattle.quick.specs.Met.{side_under, LeadsTo, Facing, met_in, SameInPlace, Taken, Meets};
 ghost use Rattle.quick.specs.declared.Meeting.TheVariants.{Leave, Done, Part};
 
 use bindings::Shown;
@@ -80,7 +80,7 @@ fn abstractions_meet(
 ) -> Meeting
     requires { (n < most_waiting) × (atoms ≤ 32) × (a.0 < atoms) × (k.0 < 512)
         × Permuting atoms (left_at atoms stack.old.images.now n) × Permuting atoms (right_at atoms stack.old.images.now n) }
-    ensures same { SameLent stack.old stack.new demands.old demands.new }
+    ensures same { SameInPlace stack.old stack.new demands.old demands.new }
     ensures heads { stack.new.heads.now ≡ stack.old.heads.now }
     ensures taken { (result ≡ Part m k) × Taken atoms number n
         (abstractions (image (left_at atoms stack.old.images.now n) a.0) (side_under (left_at atoms stack.old.images.now n) m)
@@ -151,7 +151,7 @@ fn meet(
     r: NodeId,
 ) -> Meeting
     requires { Facing input.now.bytes.now input.now.places.now atoms n stack.old.images.now l r }
-    ensures same { SameLent stack.old stack.new demands.old demands.new }
+    ensures same { SameInPlace stack.old stack.new demands.old demands.new }
     ensures heads { stack.new.heads.now ≡ stack.old.heads.now }
     ensures meets { Meets input.now.bytes.now atoms bound.0 number n l r
         (met_in stack.old demands.old) (met_in stack.new demands.new) result }
@@ -198,7 +198,7 @@ fn down(
 ) -> Went
     requires standing { Standing input.now.bytes.now input.now.places.now × (atoms ≡ (problem_of input.now.bytes.now).atoms) × (state.waiting ≢ 0) }
     requires some_going { SomeGoing input.now.bytes.now atoms limit (tables_lent stack.old bindings.now demands.old) taken state }
-    ensures same { SameLent stack.old stack.new demands.old demands.new }
+    ensures same { SameInPlace stack.old stack.new demands.old demands.new }
     ensures carried { CarriedOn input.now.bytes.now atoms limit (tables_lent stack.old bindings.now demands.old) taken state
         (tables_lent stack.new bindings.now demands.new) result }
 {
@@ -246,7 +246,7 @@ pub fn go(
 ) -> Went
     requires standing { Standing input.now.bytes.now input.now.places.now × (atoms ≡ (problem_of input.now.bytes.now).atoms) }
     requires some_going { SomeGoing input.now.bytes.now atoms limit (tables_lent stack.old bindings.now demands.old) taken start }
-    ensures same { SameLent stack.old stack.new demands.old demands.new }
+    ensures same { SameInPlace stack.old stack.new demands.old demands.new }
     ensures carried { CarriedOn input.now.bytes.now atoms limit (tables_lent stack.old bindings.now demands.old) taken start
         (tables_lent stack.new bindings.now demands.new) result }
 {
